@@ -1,0 +1,15 @@
+pub mod Allotment
+pub mod Band
+pub mod Book
+pub mod Covering
+pub mod Curve
+pub mod Entry
+pub mod Figures
+pub mod Fixing
+pub mod Picking
+pub mod Rank
+pub mod Reference
+pub mod Refusal
+pub mod Search
+pub mod Side
+pub mod Terms
