@@ -2,7 +2,7 @@
 ghost use mathlib.Core.Path.{_≡_};
 ghost use mathlib.Core.List.{List};
 ghost use Prim.Native.Nat.{ℕ, _<_, _^_};
-ghost use denote.Ref.{now as held};
+ghost use denote.Ref.{now as target};
 ghost use lib.ListN.{length};
 ghost use Rattle.std.specs.shelf.Maps.{nth};
 ghost use Rattle.rules.specs.Book.{Book, side, of-side, split};
@@ -61,11 +61,11 @@ pub fn depth_of<S: Quotes>(orders: &[Order], p: u32) -> u128
 }
 
 pub impl<'a> Curve for &'a [Order] as SliceCurve {
-    ghost book = { λ s. split (held s) };
+    ghost book = { λ s. split (target s) };
 
-    ghost orders = { λ s. held s };
+    ghost orders = { λ s. target s };
 
-    ghost covers = { λ s. split-covers (held s) };
+    ghost covers = { λ s. split-covers (target s) };
 
     fn depth(&self, d: Direction, p: u32) -> u128 {
         match d {

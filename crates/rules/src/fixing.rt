@@ -32,7 +32,7 @@ pub fn candidate<C: Curve>(curve: &C, r: u32, p: u32) -> Candidate
 
 // The best of what is held, the price q and the prices below and above it, each moved into the band.
 fn try_beside<C: Curve>(terms: &Terms, curve: &C, held: Candidate, q: u32) -> Candidate
-    ensures { λ c. ⌜ c ≡ tried-beside (now (terms .entry) .reference) (now (terms .entry) .lo) (now (terms .entry) .hi) (C·Curve .book (now (curve .entry))) held q ⌝ }
+    ensures { λ c. let t = now (terms .entry) in ⌜ c ≡ tried-beside (t .reference) (t .lo) (t .hi) (C·Curve .book (now (curve .entry))) held q ⌝ }
 {
     let r = terms.reference();
     let (lo, hi) = terms.band();
@@ -44,7 +44,7 @@ fn try_beside<C: Curve>(terms: &Terms, curve: &C, held: Candidate, q: u32) -> Ca
 
 // The same at the price of the order i, if there is one.
 fn try_order<C: Curve>(terms: &Terms, curve: &C, held: Candidate, i: u128) -> Candidate
-    ensures { λ c. ⌜ c ≡ tried-at (now (terms .entry) .reference) (now (terms .entry) .lo) (now (terms .entry) .hi) (C·Curve .book (now (curve .entry))) held (nth (C·Curve .orders (now (curve .entry))) i) ⌝ }
+    ensures { λ c. let t = now (terms .entry) in ⌜ c ≡ tried-at (t .reference) (t .lo) (t .hi) (C·Curve .book (now (curve .entry))) held (nth (C·Curve .orders (now (curve .entry))) i) ⌝ }
 {
     match curve.at(i) {
         Some(o) => try_beside(terms, curve, held, o.price),
@@ -55,7 +55,7 @@ fn try_order<C: Curve>(terms: &Terms, curve: &C, held: Candidate, i: u128) -> Ca
 // The best price of the band. The curve changes only beside an order's price, so the reference price and the prices at
 // and beside the orders' are enough to try, however wide the band.
 fn best_price<C: Curve>(terms: &Terms, curve: &C) -> Candidate
-    ensures { λ c. ⌜ c ≡ best-price (now (terms .entry) .reference) (C·Curve .book (now (curve .entry))) (now (terms .entry) .lo) (now (terms .entry) .hi - now (terms .entry) .lo) ⌝ }
+    ensures { λ c. let t = now (terms .entry) in ⌜ c ≡ best-price (t .reference) (C·Curve .book (now (curve .entry))) (t .lo) (t .hi - t .lo) ⌝ }
 {
     let r = terms.reference();
     let mut held = candidate(curve, r, r);
@@ -74,16 +74,16 @@ fn priced(held: Candidate) -> Option<Candidate>
 
 // The fixing price of a curve's orders, none where nothing can trade at any price of the band.
 pub fn fixing_on<C: Curve>(terms: &Terms, curve: &C) -> Option<Candidate>
-    ensures value { λ c. ⌜ c ≡ fixingOf (now (terms .entry) .reference) (now (terms .entry) .lo) (now (terms .entry) .hi) (C·Curve .book (now (curve .entry))) ⌝ }
-    ensures greatest { λ c. ⌜ Greatest (now (terms .entry) .reference) (now (terms .entry) .lo) (now (terms .entry) .hi) (C·Curve .book (now (curve .entry))) c ⌝ }
+    ensures value { λ c. let t = now (terms .entry) in ⌜ c ≡ fixingOf (t .reference) (t .lo) (t .hi) (C·Curve .book (now (curve .entry))) ⌝ }
+    ensures greatest { λ c. let t = now (terms .entry) in ⌜ Greatest (t .reference) (t .lo) (t .hi) (C·Curve .book (now (curve .entry))) c ⌝ }
 {
     priced(best_price(terms, curve))
 }
 
 // The fixing price of the orders of a slice.
 pub fn fixing(terms: &Terms, orders: &[Order]) -> Option<Candidate>
-    ensures value { λ c. ⌜ c ≡ fixingOf (now (terms .entry) .reference) (now (terms .entry) .lo) (now (terms .entry) .hi) (split (now (orders .entry))) ⌝ }
-    ensures greatest { λ c. ⌜ Greatest (now (terms .entry) .reference) (now (terms .entry) .lo) (now (terms .entry) .hi) (split (now (orders .entry))) c ⌝ }
+    ensures value { λ c. let t = now (terms .entry) in ⌜ c ≡ fixingOf (t .reference) (t .lo) (t .hi) (split (now (orders .entry))) ⌝ }
+    ensures greatest { λ c. let t = now (terms .entry) in ⌜ Greatest (t .reference) (t .lo) (t .hi) (split (now (orders .entry))) c ⌝ }
 {
     fixing_on(terms, &orders)
 }

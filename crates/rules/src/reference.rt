@@ -28,7 +28,7 @@ pub struct NoTerms {
 }
 
 pub fn next_reference(terms: &Terms, left: DayRecord) -> u32
-    ensures { λ r. ⌜ r ≡ next-reference (now (terms .entry) .reference) (now (terms .entry) .lo) (now (terms .entry) .hi) left ⌝ }
+    ensures { λ r. let t = now (terms .entry) in ⌜ r ≡ next-reference (t .reference) (t .lo) (t .hi) left ⌝ }
 {
     let (lo, hi) = terms.band();
     if !left.closed {
@@ -44,7 +44,7 @@ pub fn next_reference(terms: &Terms, left: DayRecord) -> u32
 
 impl EndedDay {
     pub fn new(terms: &Terms, left: DayRecord) -> EndedDay
-        ensures { λ d. ⌜ d .next ≡ next-reference (now (terms .entry) .reference) (now (terms .entry) .lo) (now (terms .entry) .hi) left ⌝ }
+        ensures { λ d. let t = now (terms .entry) in ⌜ d .next ≡ next-reference (t .reference) (t .lo) (t .hi) left ⌝ }
     {
         EndedDay {
             next: next_reference(terms, left),
