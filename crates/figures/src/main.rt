@@ -173,9 +173,10 @@ fn show_tally(rt: LibcRuntime, tally: Tally) -> Result<(), AnyError> {
         known,
         differ,
     } = tally;
+    let all = agree.wrapping_add(known).wrapping_add(differ);
     println!(
         rt,
-        "{agree} agree, {known} differ as known, {differ} differ"
+        "{all} figures: {agree} agree, {known} with a known difference, {differ} differ"
     )?;
     if differ > 0 {
         return Err("the rules differ from what is published".into());
