@@ -33,4 +33,4 @@ left lo hi best stood trade =
 
 -- the figures of a day, from its terms and the day once it is over
 abbrev pub day-of : Terms → EndedDay → Day
-day-of t d = record { reference = t .reference; lowest = t .lo; highest = t .hi; next = d .next }
+day-of t d = record { reference = t .reference; lowest = t .lo; highest = t .hi; next = d .reference }

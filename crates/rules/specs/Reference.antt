@@ -34,4 +34,4 @@ drawn-as day (made r b lo hi) = terms r b lo hi
 
 -- the terms of the day's next reference and a block
 abbrev pub next-terms-of : EndedDay → ℕ → Drawn
-next-terms-of day block = drawn-as day (terms-of (day .next) block)
+next-terms-of day block = drawn-as day (terms-of (day .reference) block)

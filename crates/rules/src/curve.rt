@@ -1,7 +1,7 @@
 // Demand and supply. The curve of a fixing comes from a slice of orders, or from whatever else holds orders.
 ghost use mathlib.Core.Path.{_≡_};
 ghost use mathlib.Core.List.{List};
-ghost use Prim.Native.Nat.{ℕ, _<_, _^_};
+ghost use Prim.Native.Nat.{ℕ};
 ghost use denote.Ref.{now as target};
 ghost use lib.ListN.{length};
 ghost use Rattle.std.specs.shelf.Maps.{nth};
@@ -79,7 +79,7 @@ pub impl<'a> Curve for &'a [Order] as SliceCurve {
     }
 
     fn at(&self, i: u128) -> Option<Order> {
-        if i < self.len() as u128 {
+        if i < self.count() {
             Some(self[i as usize])
         } else {
             None

@@ -10,4 +10,6 @@ pub mod reference;
 pub mod refusal;
 pub mod side;
 pub mod terms;
+#[cfg(test)]
+mod tests;
 pub mod theorems;

@@ -17,7 +17,8 @@ pub struct DayRecord {
 // A day that is over. It is spent to draw the next day's terms, so one day has one successor.
 #[derive(Drop)]
 pub struct EndedDay {
-    next: u32,
+    // the next day's
+    reference: u32,
 }
 
 // A day that gave no terms, handed back with the reason.
@@ -44,23 +45,23 @@ pub fn next_reference(terms: &Terms, left: DayRecord) -> u32
 
 impl EndedDay {
     pub fn new(terms: &Terms, left: DayRecord) -> EndedDay
-        ensures { λ d. let t = now (terms .entry) in ⌜ d .next ≡ next-reference (t .reference) (t .lo) (t .hi) left ⌝ }
+        ensures { λ d. let t = now (terms .entry) in ⌜ d .reference ≡ next-reference (t .reference) (t .lo) (t .hi) left ⌝ }
     {
         EndedDay {
-            next: next_reference(terms, left),
+            reference: next_reference(terms, left),
         }
     }
 
     pub fn next_reference(&self) -> u32
-        ensures { λ r. ⌜ r ≡ now (self .entry) .next ⌝ }
+        ensures { λ r. ⌜ r ≡ now (self .entry) .reference ⌝ }
     {
-        self.next
+        self.reference
     }
 
     pub fn next_terms(self, block: u32) -> Result<Terms, NoTerms>
         ensures { λ r. ⌜ drawn r ≡ next-terms-of self block ⌝ }
     {
-        match Terms::new(self.next, block) {
+        match Terms::new(self.next_reference(), block) {
             Ok(terms) => Ok(terms),
             Err(refusal) => Err(NoTerms { refusal, day: self }),
         }
