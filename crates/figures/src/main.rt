@@ -58,18 +58,6 @@ fn show_band(rt: LibcRuntime, tally: &mut Tally, published: &Band) -> Result<(),
     Ok(())
 }
 
-fn limit(number: u32, direction: Direction, price: u32, volume: u32) -> Order {
-    Order {
-        number,
-        member: 1,
-        direction,
-        price,
-        market: false,
-        volume,
-        arrival: number,
-    }
-}
-
 fn show_fixing(
     rt: LibcRuntime,
     tally: &mut Tally,
@@ -90,15 +78,15 @@ fn show_fixing(
 
 fn show_fixings(rt: LibcRuntime, tally: &mut Tally) -> Result<(), AnyError> {
     let apart = [
-        limit(1, Direction::Buy, 1020, 20),
-        limit(2, Direction::Sell, 1040, 20),
+        Order::limit(1, 1, Direction::Buy, 1020, 20),
+        Order::limit(2, 1, Direction::Sell, 1040, 20),
     ];
     show_fixing(rt, tally, &apart, Fixed::Nothing)?;
     let crossed = [
-        limit(1, Direction::Buy, 1030, 50),
-        limit(2, Direction::Buy, 1010, 30),
-        limit(3, Direction::Sell, 1000, 40),
-        limit(4, Direction::Sell, 1020, 40),
+        Order::limit(1, 1, Direction::Buy, 1030, 50),
+        Order::limit(2, 1, Direction::Buy, 1010, 30),
+        Order::limit(3, 1, Direction::Sell, 1000, 40),
+        Order::limit(4, 1, Direction::Sell, 1020, 40),
     ];
     show_fixing(
         rt,
@@ -110,9 +98,9 @@ fn show_fixings(rt: LibcRuntime, tally: &mut Tally) -> Result<(), AnyError> {
         },
     )?;
     let beside = [
-        limit(1, Direction::Buy, 1010, 40),
-        limit(2, Direction::Buy, 1000, 20),
-        limit(3, Direction::Sell, 990, 40),
+        Order::limit(1, 1, Direction::Buy, 1010, 40),
+        Order::limit(2, 1, Direction::Buy, 1000, 20),
+        Order::limit(3, 1, Direction::Sell, 990, 40),
     ];
     show_fixing(
         rt,

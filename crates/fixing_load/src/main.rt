@@ -11,18 +11,6 @@ use std::error::AnyError;
 
 const ORDERS_A_SIDE: u32 = 512;
 
-fn order(number: u32, direction: Direction, price: u32) -> Order {
-    Order {
-        number,
-        member: 1,
-        direction,
-        price,
-        market: false,
-        volume: 10,
-        arrival: number,
-    }
-}
-
 // Buys from the highest price down and sells from the lowest up, a step apart, so that they meet at the reference price.
 fn full_book(heap: Global, terms: &Terms) -> Result<Vec<Order>, AllocError> {
     let (lo, hi) = terms.band();
@@ -30,8 +18,8 @@ fn full_book(heap: Global, terms: &Terms) -> Result<Vec<Order>, AllocError> {
     let mut orders = Vec::new(heap);
     for k in 0..ORDERS_A_SIDE {
         let away = k.saturating_mul(step);
-        orders.push(order(2 * k + 1, Direction::Buy, hi.saturating_sub(away)))?;
-        orders.push(order(2 * k + 2, Direction::Sell, lo.saturating_add(away)))?;
+        orders.push(Order::limit(2 * k + 1, 1, Direction::Buy, hi.saturating_sub(away), 10))?;
+        orders.push(Order::limit(2 * k + 2, 1, Direction::Sell, lo.saturating_add(away), 10))?;
     }
     Ok(orders)
 }

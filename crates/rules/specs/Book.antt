@@ -1,12 +1,19 @@
--- The orders of both sides.
+-- Orders, and the orders of both sides.
 use mathlib.Core.Path.{_≡_}
+use mathlib.Core.Bool.{false}
 use mathlib.Core.Logic.{_⊎_}
 use mathlib.Core.List.{List, [], _∷_}
+use Prim.Native.Nat.{ℕ}
 use Rattle.std.specs.shelf.Lists.{kept-by}
 use Rattle.rules.specs.Side.{same}
 use Rattle.rules.specs.declared.order.Direction.{Direction}
 use Rattle.rules.specs.declared.order.Direction.the-variants.{Buy, Sell}
 use Rattle.rules.specs.declared.order.Order.{Order}
+
+-- a limit order that enters: number, member, side, price and volume; the number is its arrival
+abbrev pub limit : ℕ → ℕ → Direction → ℕ → ℕ → Order
+limit n member d p v =
+    record { number = n; member = member; direction = d; price = p; market = false; volume = v; arrival = n }
 
 pub record Book : Type 0 where
   pub buys : List Order

@@ -8,10 +8,9 @@ use Rattle.std.specs.shelf.Lists.{All}
 use Rattle.std.specs.declared.option.Option.{Option}
 use Rattle.std.specs.declared.option.Option.the-variants.{Some, None}
 use Rattle.rules.specs.Band.{band, lowest, highest}
-use Rattle.rules.specs.Book.{split}
+use Rattle.rules.specs.Book.{limit, split}
 use Rattle.rules.specs.Fixing.{fixing}
 use Rattle.rules.specs.Reference.{next-reference}
-use Rattle.rules.specs.declared.order.Direction.{Direction}
 use Rattle.rules.specs.declared.order.Direction.the-variants.{Buy, Sell}
 use Rattle.rules.specs.declared.order.Order.{Order}
 use Rattle.rules.specs.declared.reference.DayRecord.{DayRecord}
@@ -29,10 +28,6 @@ Holds (Band r lo hi) = band r ≡ (lo, hi)
 Holds (Fixing r os found) = mapped (λ c. (c .price, c .volume)) (fixing r (lowest r) (highest r) (split os)) ≡ found
 Holds (Next r left next) = next-reference r (lowest r) (highest r) left ≡ next
 
--- a limit order by its number, side, price and volume; it came in the sequence of its number
-abbrev pub limit : ℕ → Direction → ℕ → ℕ → Order
-limit n d p v = record { number = n; member = 1; direction = d; price = p; market = false; volume = v; arrival = n }
-
 -- a closed session without trades, by whether the best buy stood at the highest price and the best sell at the lowest,
 -- each throughout continuous trading
 abbrev pub untraded : Bool → Bool → DayRecord
@@ -42,9 +37,9 @@ abbrev pub figures : List Figure
 figures =
     Band 1000 700 1300
     ∷ Band 1 1 1
-    ∷ Fixing 1000 (limit 1 Buy 1020 20 ∷ limit 2 Sell 1040 20 ∷ []) None
-    ∷ Fixing 1000 (limit 1 Buy 1030 50 ∷ limit 2 Buy 1010 30 ∷ limit 3 Sell 1000 40 ∷ limit 4 Sell 1020 40 ∷ []) (Some (1020, 50))
-    ∷ Fixing 1000 (limit 1 Buy 1010 40 ∷ limit 2 Buy 1000 20 ∷ limit 3 Sell 990 40 ∷ []) (Some (1001, 40))
+    ∷ Fixing 1000 (limit 1 1 Buy 1020 20 ∷ limit 2 1 Sell 1040 20 ∷ []) None
+    ∷ Fixing 1000 (limit 1 1 Buy 1030 50 ∷ limit 2 1 Buy 1010 30 ∷ limit 3 1 Sell 1000 40 ∷ limit 4 1 Sell 1020 40 ∷ []) (Some (1020, 50))
+    ∷ Fixing 1000 (limit 1 1 Buy 1010 40 ∷ limit 2 1 Buy 1000 20 ∷ limit 3 1 Sell 990 40 ∷ []) (Some (1001, 40))
     -- a buy at 1300 throughout
     ∷ Next 1000 (untraded true false) 1300
     -- a buy at 2340 for a part of the time

@@ -1,5 +1,6 @@
 // An order, and its side as a value.
 ghost use mathlib.Core.Path.{_≡_};
+ghost use Rattle.rules.specs.Book.{limit};
 ghost use Rattle.rules.specs.Side.{opposite, same};
 
 #[derive(Clone, Copy)]
@@ -39,4 +40,21 @@ pub struct Order {
     pub market: bool,
     pub volume: u32,
     pub arrival: u32,
+}
+
+impl Order {
+    // A limit order that enters now: its number is its arrival.
+    pub fn limit(number: u32, member: u32, direction: Direction, price: u32, volume: u32) -> Order
+        ensures { λ o. ⌜ o ≡ limit number member direction price volume ⌝ }
+    {
+        Order {
+            number,
+            member,
+            direction,
+            price,
+            market: false,
+            volume,
+            arrival: number,
+        }
+    }
 }

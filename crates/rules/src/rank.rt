@@ -12,7 +12,7 @@ pub trait Ranked {
 
     law oneway: { (a b : Self) → precedes a b ≡ true → precedes b a ≡ false };
 
-    // where b does not rank before a, nor c before b, c does not rank before a
+    // where b does not rank before a, nor c before b, c does not rank before a; so ranking before is transitive too
     law chain: { (a b c : Self) → precedes b a ≡ false → precedes c b ≡ false → precedes c a ≡ false };
 
     law level: { (a b : Self) → precedes a b ≡ false → precedes b a ≡ false → identity a ≡ identity b };

@@ -14,13 +14,8 @@ use std::test::*;
 
 fn order(number: u32, price: u32, arrival: u32) -> Order {
     Order {
-        number,
-        member: 1,
-        direction: Direction::Buy,
-        price,
-        market: false,
-        volume: 10,
         arrival,
+        ..Order::limit(number, 1, Direction::Buy, price, 10)
     }
 }
 
