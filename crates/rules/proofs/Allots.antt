@@ -1,8 +1,8 @@
 -- What an allotment can trade at a price is what the curve says.
-use mathlib.Core.Path.{_≡_, refl}
+use mathlib.Core.Path.{_≡_}
 use mathlib.Core.Bool.{cond}
 use mathlib.Core.List.{List, [], _∷_}
-use Prim.Native.Nat.{ℕ, _+_, _-_, _≤_, min}
+use Prim.Native.Nat.{ℕ, _-_, _≤_, min}
 use native.Mathlib.Omega.{arith}
 use Rattle.rules.specs.Allotment.{total, Allotted, Allotment}
 use Rattle.rules.specs.Book.{Book}

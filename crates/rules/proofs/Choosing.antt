@@ -1,49 +1,48 @@
--- What is best so far is chosen of the list so far.
+-- What is picked is chosen of the list.
 use mathlib.Core.Path.{_≡_, refl, sym, ap, subst, _∙_}
-use mathlib.Core.Bool.{Bool, true, false, cond}
-use mathlib.Core.List.{List, [], _∷_, _++_, append-assoc, append-nil}
+use mathlib.Core.Bool.{Bool, true, false}
+use mathlib.Core.List.{List, [], _∷_}
 use Prim.Native.Nat.{ℕ, _+_, _<_}
 use lib.ListN.{length, take, getD}
 use Rattle.std.specs.Iters.{folded}
-use Rattle.std.specs.shelf.Lists.{All, Has}
+use Rattle.std.specs.Slices.{Ranks}
+use Rattle.std.specs.shelf.Bests.{best-of}
 use Rattle.std.specs.declared.option.Option.{Option}
 use Rattle.std.specs.declared.option.Option.the-variants.{Some, None}
-use Rattle.std.proofs.shelf.Elements.{all-push, all-weaker, has-push, has-append-left}
+use Rattle.std.proofs.shelf.Bests.{first-best-from-best-of}
+use Rattle.std.proofs.shelf.Elements.{all-from-getD}
+use Rattle.std.proofs.shelf.Lists.{getD-default}
 use Rattle.std.proofs.shelf.Sums.{folded-more}
-use Rattle.rules.specs.Picking.{held-or, best-of, Chosen}
+use Rattle.rules.specs.Picking.{better-of, held-or, picked, Chosen}
 
-module _ {X : Type 0} (precedes : X → X → Bool)
-    (one-way : (a b : X) → precedes a b ≡ true → precedes b a ≡ false)
-    (chain : (a b c : X) → precedes b a ≡ false → precedes c b ≡ false → precedes c a ≡ false) where
-  pub strict : (a : X) → precedes a a ≡ false
-  strict a = go (precedes a a) refl
-    where
-      go : (t : Bool) → precedes a a ≡ t → precedes a a ≡ false
-      go true e = one-way a a e
-      go false e = e
-
-  chosen-push : (xs : List X) (o : Option X) (x : X) → Chosen precedes xs o → Chosen precedes (xs ++ x ∷ []) (held-or precedes o x)
-  chosen-push xs None x e = (has-push xs x, all-push _ xs x (subst (All (λ y. precedes y x ≡ false)) (sym e) tt) (strict x))
-  chosen-push xs (Some b) x h = go (precedes x b) refl
-    where
-      go : (t : Bool) → precedes x b ≡ t → Chosen precedes (xs ++ x ∷ []) (Some (cond t x b))
-      go true e =
-          let up = λ (y : X) (k : precedes y b ≡ false). chain x b y (one-way x b e) k in
-          (has-push xs x, all-push (λ y. precedes y x ≡ false) xs x (all-weaker (λ y. precedes y b ≡ false) _ up xs (h .1)) (strict x))
-      go false e = (has-append-left xs (x ∷ []) b (h .0), all-push (λ y. precedes y b ≡ false) xs x (h .1) e)
-
-  chosen-all : (xs ys : List X) (o : Option X) → Chosen precedes xs o → Chosen precedes (xs ++ ys) (folded (held-or precedes) o ys)
-  chosen-all xs [] o h = simp append-nil h
-  chosen-all xs (y ∷ ys) o h =
-      subst (λ zs. Chosen precedes zs (folded (held-or precedes) (held-or precedes o y) ys)) (append-assoc xs (y ∷ []) ys)
-      (chosen-all (xs ++ y ∷ []) ys (held-or precedes o y) (chosen-push xs o y h))
-
-  pub chosen : (xs : List X) → Chosen precedes xs (best-of precedes xs)
-  chosen xs = chosen-all [] xs None refl
+module _ {X : Type 0} (precedes : X → X → Bool) where
+  some-picked : (a : X) (xs : List X) → folded (held-or precedes) (Some a) xs ≡ Some (best-of precedes a xs)
+  some-picked a [] = refl
+  some-picked a (x ∷ xs) = some-picked (better-of precedes a x) xs
 
   -- the step of a loop over the list
-  pub best-more : (xs : List X) (i : ℕ) (held next : Option X) (x : X) → i < length xs → x ≡ getD xs i x → held ≡ best-of precedes (take i xs)
-      → next ≡ held-or precedes held x → next ≡ best-of precedes (take (i + 1) xs)
-  best-more xs i held next x l is e f =
-      f ∙ ap (λ h. held-or precedes h x) e ∙ ap (held-or precedes (best-of precedes (take i xs))) is
+  pub picked-more : (xs : List X) (i : ℕ) (held next : Option X) (x : X) → i < length xs → x ≡ getD xs i x → held ≡ picked precedes (take i xs)
+      → next ≡ held-or precedes held x → next ≡ picked precedes (take (i + 1) xs)
+  picked-more xs i held next x l is e f =
+      f ∙ ap (λ h. held-or precedes h x) e ∙ ap (held-or precedes (picked precedes (take i xs))) is
       ∙ sym (folded-more (held-or precedes) None xs i x l)
+
+  module _ (o : Ranks precedes) where
+    pub strict : (a : X) → precedes a a ≡ false
+    strict a = go (precedes a a) refl
+      where
+        go : (t : Bool) → precedes a a ≡ t → precedes a a ≡ false
+        go true e = o .one-way a a e
+        go false e = e
+
+    pub chosen : (xs : List X) → Chosen precedes xs (picked precedes xs)
+    chosen [] = refl
+    chosen (a ∷ xs) =
+        let f = first-best-from-best-of o a xs in
+        let best = best-of precedes a xs in
+        let first : Chosen precedes (a ∷ xs) (Some best) = (
+          (f .0, f .1 .0, λ d. getD-default (a ∷ xs) (f .0) d a (f .1 .0) ∙ f .2),
+          all-from-getD (λ x. precedes x best ≡ false) (a ∷ xs) a
+              (λ i l. subst (λ y. precedes (getD (a ∷ xs) i a) y ≡ false) (f .2) (f .1 .1 i a l)),
+        ) in
+        subst (Chosen precedes (a ∷ xs)) (sym (some-picked a xs)) first

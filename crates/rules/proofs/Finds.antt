@@ -16,7 +16,6 @@ use Rattle.std.proofs.shelf.Ways.{tells}
 use Rattle.rules.specs.Book.{Book}
 use Rattle.rules.specs.Curve.{apart, candidate, Covers}
 use Rattle.rules.specs.Fixing.{best-price}
-use Rattle.rules.specs.Picking.{better-of}
 use Rattle.rules.specs.Rank.{preferable}
 use Rattle.rules.specs.Search.{clamped, tried, tried-beside, tried-at, searched}
 use Rattle.rules.specs.declared.candidate.Candidate.{Candidate}
@@ -30,8 +29,8 @@ use Rattle.rules.proofs.Walk.{Touches, Beside, Reached, reach}
 no-better : (a b : Candidate) → a .volume ≡ b .volume → a .surplus ≡ b .surplus → (b .distance < a .distance) ⊎ ((a .distance ≡ b .distance) × (b .price ≤ a .price)) → preferable a b ≡ false
 no-better a b v s d = grind (arith, tells)
 
--- a price between p and r is nearer to r, or p itself
-nearer : (r p q : ℕ) → ((p ≤ q) × (q ≤ r)) ⊎ ((r ≤ q) × (q ≤ p)) → (apart q r < apart p r) ⊎ ((apart p r ≡ apart q r) × (q ≤ p))
+-- a price on the way from p to r is nearer to r, or p itself
+nearer : (r p q : ℕ) → apart p q + apart q r ≡ apart p r → (apart q r < apart p r) ⊎ ((apart p r ≡ apart q r) × (q ≤ p))
 nearer r p q h = elim (cases-eq p q) [ inl e ↦ inr (omega arith) | inr n ↦ inl (omega arith) ]
 
 module _ (r lo hi : ℕ) (b : Book) where
@@ -50,7 +49,7 @@ module _ (r lo hi : ℕ) (b : Book) where
     high = h;
     beats = λ p e _ _.
         subst (λ x. preferable (candidate r b x) (candidate r b q) ≡ false) (sym e)
-        (strict preferable (candidates .one-way) (candidates .chain) (candidate r b q));
+        (strict preferable (candidates .ranks) (candidate r b q));
   }
 
   held-like : (T U : ℕ → Type 0) (h : Candidate) → ((p : ℕ) → lo ≤ p → p ≤ hi → U p → T p) → Held r lo hi b T h → Held r lo hi b U h
@@ -66,7 +65,7 @@ module _ (r lo hi : ℕ) (b : Book) where
         low = l;
         high = k;
         beats = λ p t x y. elim t [
-          | inl u ↦ candidates .chain (candidate r b q) h (candidate r b p) (candidates .one-way (candidate r b q) h e) (s .beats p u x y)
+          | inl u ↦ candidates .ranks .chain (candidate r b p) h (candidate r b q) (s .beats p u x y) (candidates .ranks .one-way (candidate r b q) h e)
           | inr u ↦ held-at q l k .beats p u x y
         ];
       }
@@ -139,7 +138,7 @@ module _ (r lo hi : ℕ) (b : Book) where
       no-better (candidate r b p) (candidate r b (g .at))
       (ap₂ min (sym (g .level Buy)) (sym (g .level Sell)))
       (ap₂ apart (sym (g .level Buy)) (sym (g .level Sell)))
-      (nearer r p (g .at) (g .between))
+      (nearer r p (g .at) (g .on-the-way))
 
   -- of orders that cover the book, the search finds what the search over the whole band finds
   pub found : lo ≤ r → r ≤ hi → (os : List Order) → Covers os b
@@ -154,8 +153,8 @@ module _ (r lo hi : ℕ) (b : Book) where
         high = s .high;
         beats = λ p _ x y.
             let g = reach r os b covers p in
-            candidates .chain h (candidate r b (g .at)) (candidate r b p)
-            (s .beats (g .at) (g .tried) (omega (arith, g .between)) (omega (arith, g .between))) (toward os p g);
+            candidates .ranks .chain (candidate r b p) (candidate r b (g .at)) h (toward os p g)
+            (s .beats (g .at) (g .tried) (omega (arith, g .on-the-way)) (omega (arith, g .on-the-way)));
       } in
       one-best h (best-price r b lo (hi - lo)) all (band-best (omega arith))
 

@@ -1,34 +1,39 @@
 -- The fixing price against its three steps, and against what any allotment trades.
-use mathlib.Core.Path.{_≡_, refl, sym, ap, subst, _∙_}
-use mathlib.Core.Bool.{Bool, true, false, cond}
+use mathlib.Core.Path.{_≡_, sym, ap, subst, _∙_}
+use mathlib.Core.Bool.{true, false}
 use mathlib.Core.List.{List, [], _∷_}
-use mathlib.Core.Logic.{_⊎_, inl, inr}
-use Prim.Native.Nat.{ℕ, _+_, _-_, _<_, _≤_, min}
+use mathlib.Core.Logic.{inl, inr}
+use Prim.Native.Nat.{ℕ, _-_, _<_, _≤_, min}
 use native.Mathlib.Omega.{arith}
 use Rattle.std.specs.declared.option.Option.{Option}
 use Rattle.std.specs.declared.option.Option.the-variants.{Some, None}
 use Rattle.std.proofs.shelf.Tests.{cases-order}
 use Rattle.std.proofs.shelf.Ways.{tells}
-use Rattle.rules.specs.Allotment.{Allotment, Greatest, Fixing-trades-the-most}
+use Rattle.rules.specs.Allotment.{Allotment, Trades-most, Greatest, Fixing-trades-the-most}
 use Rattle.rules.specs.Book.{Book}
 use Rattle.rules.specs.Curve.{depth, demand, supply, tradable, surplus, apart, candidate}
 use Rattle.rules.specs.Fixing.{best-price, priced, fixing, Best-by-steps, Decided-by-steps, One-price}
 use Rattle.rules.specs.Rank.{preferable}
+use Rattle.rules.specs.Side.{willing}
 use Rattle.rules.specs.declared.candidate.Candidate.{Candidate}
+use Rattle.rules.specs.declared.order.Direction.{Direction}
 use Rattle.rules.specs.declared.order.Direction.the-variants.{Buy, Sell}
 use Rattle.rules.specs.declared.order.Order.{Order}
 use Rattle.rules.proofs.Allots.{allotment-bound, allotment-most}
-use Rattle.rules.proofs.Finds.{Held, Best, band-best}
+use Rattle.rules.proofs.Finds.{Best, band-best}
 
 -- One price ------------------------------------------------------------------------------------------------------------
 
+-- what is willing at p is willing at q, so q has no less depth
+deeper : (d : Direction) (p q : ℕ) → ((x : ℕ) → willing d x p ≡ true → willing d x q ≡ true) → (os : List Order) → depth d p os ≤ depth d q os
+deeper d p q keener [] = omega arith
+deeper d p q keener (o ∷ os) = let rest = deeper d p q keener os in let more = keener (o .price) in grind (arith, tells)
+
 demand-falls : (os : List Order) (p q : ℕ) → p ≤ q → depth Buy q os ≤ depth Buy p os
-demand-falls [] p q h = omega arith
-demand-falls (o ∷ os) p q h = let rest = demand-falls os p q h in grind (arith, tells)
+demand-falls os p q h = deeper Buy q p (λ x w. grind (arith, tells)) os
 
 supply-rises : (os : List Order) (p q : ℕ) → p ≤ q → depth Sell p os ≤ depth Sell q os
-supply-rises [] p q h = omega arith
-supply-rises (o ∷ os) p q h = let rest = supply-rises os p q h in grind (arith, tells)
+supply-rises os p q h = deeper Sell p q (λ x w. grind (arith, tells)) os
 
 -- D and S at three rising prices: where the outer two are level and the middle one trades no more, it trades as much,
 -- and its surplus is no larger
@@ -124,22 +129,22 @@ module _ (r lo hi : ℕ) (b : Book) (l : lo ≤ r) (k : r ≤ hi) where
       let whole : the-best ≡ candidate r b p = is ∙ ap (candidate r b) same in
       ap priced whole ∙ priced-some (candidate r b p) t
 
+  trades-most : Trades-most r lo hi b the-best
+  trades-most = record {
+    low = best .low;
+    high = best .high;
+    figures = is;
+    most = λ p t x y a. omega (arith, allotment-bound b p t a, best-by-steps .greatest p x y, volume-is);
+    attained = subst (Allotment b (the-best .price)) (sym volume-is) (allotment-most b (the-best .price));
+  }
+
   greatest : Greatest r lo hi b (fixing r lo hi b)
   unfolding the-best
-  greatest =
-      let bound = λ (p t : ℕ) (x : lo ≤ p) (y : p ≤ hi) (a : Allotment b p t). allotment-bound b p t a in
-      let full : Allotment b (the-best .price) (the-best .volume) = subst (Allotment b (the-best .price)) (sym volume-is) (allotment-most b (the-best .price)) in
-      let most : (p t : ℕ) → lo ≤ p → p ≤ hi → Allotment b p t → t ≤ the-best .volume =
-      λ p t x y a. omega (arith, bound p t x y a, best-by-steps .greatest p x y, volume-is) in
-      record {
-        low = λ c e. subst (λ (d : Candidate). lo ≤ d .price) (priced-is the-best c e .0) (best .low);
-        high = λ c e. subst (λ (d : Candidate). d .price ≤ hi) (priced-is the-best c e .0) (best .high);
-        true-figures = λ c e. subst (λ (d : Candidate). d ≡ candidate r b (d .price)) (priced-is the-best c e .0) is;
-        most = λ c e. subst (λ (d : Candidate). (p t : ℕ) → lo ≤ p → p ≤ hi → Allotment b p t → t ≤ d .volume) (priced-is the-best c e .0) most;
-        attained = λ c e. subst (λ (d : Candidate). Allotment b (d .price) (d .volume)) (priced-is the-best c e .0) full;
-        nothing = λ e p t x y a. omega (arith, most p t x y a, priced-none the-best e);
-        none = λ idle. priced-zero the-best (idle (the-best .price) (the-best .volume) (best .low) (best .high) full);
-      }
+  greatest = record {
+    some = λ c e. subst (Trades-most r lo hi b) (priced-is the-best c e .0) trades-most;
+    nothing = λ e p t x y a. omega (arith, trades-most .most p t x y a, priced-none the-best e);
+    none = λ idle. priced-zero the-best (idle (the-best .price) (the-best .volume) (best .low) (best .high) (trades-most .attained));
+  }
 
 pub decided-by-steps : Decided-by-steps
 decided-by-steps r lo hi b l k p = (decided r lo hi b l k p, deciding r lo hi b l k p)

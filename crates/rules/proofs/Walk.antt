@@ -8,7 +8,7 @@ use Rattle.std.specs.shelf.Lists.{All}
 use Rattle.std.proofs.shelf.Tests.{cases-eq, cases-lt}
 use Rattle.std.proofs.shelf.Ways.{tells}
 use Rattle.rules.specs.Book.{Book, side, Member}
-use Rattle.rules.specs.Curve.{offered, depth, Covers}
+use Rattle.rules.specs.Curve.{offered, depth, apart, Covers}
 use Rattle.rules.specs.declared.order.Direction.{Direction}
 use Rattle.rules.specs.declared.order.Direction.the-variants.{Buy, Sell}
 use Rattle.rules.specs.declared.order.Order.{Order}
@@ -31,11 +31,11 @@ offered-flat : (d : Direction) (o : Order) (p : ℕ) → (o .price ≡ p → ⊥
 offered-flat Buy o p h k = grind (arith, tells)
 offered-flat Sell o p h k = grind (arith, tells)
 
--- a price between p and r at which the curve is as at p, and which the search tries
+-- a price on the way from p to r at which the curve is as at p, and which the search tries
 pub record Reached (r : ℕ) (os : List Order) (b : Book) (p : ℕ) : Type 0 where
   pub at : ℕ
   pub tried : (at ≡ r) ⊎ Beside os at
-  pub between : ((p ≤ at) × (at ≤ r)) ⊎ ((r ≤ at) × (at ≤ p))
+  pub on-the-way : apart p at + apart at r ≡ apart p r
   pub level : (d : Direction) → depth d at (side d b) ≡ depth d p (side d b)
 
 module _ (r : ℕ) (os : List Order) (b : Book) (covers : Covers os b) where
@@ -69,35 +69,49 @@ module _ (r : ℕ) (os : List Order) (b : Book) (covers : Covers os b) where
       go (inr e) (inl k) = inl k
       go (inr e) (inr f) = inr (level e f)
 
-  -- q is on the way from p to r, is tried, and the curve there is as at p
-  record Stop (low high p q : ℕ) : Type 0 where
-    above : low ≤ q
-    below : q ≤ high
-    tried : (q ≡ r) ⊎ Beside os q
-    level : (d : Direction) → depth d q (side d b) ≡ depth d p (side d b)
+  -- the next price on the way from p to r: p itself is tried, or the curve is the same there
+  record Next (p : ℕ) : Type 0 where
+    to : ℕ
+    nearer : apart p to + apart to r ≡ apart p r
+    step : apart to r + 1 ≡ apart p r
+    stop : Beside os p ⊎ ((d : Direction) → depth d to (side d b) ≡ depth d p (side d b))
 
-  up : (k p : ℕ) → p + k ≡ r → (q : ℕ) × Stop p r p q
-  up zero p e = (p, record { above = omega arith; below = omega arith; tried = inl (omega arith); level = λ d. refl })
-  up (suc k) p e = go (flat p) (up k (p + 1) (omega arith))
+  next : (p : ℕ) → 0 < apart p r → Next p
+  next p far = go (cases-lt p r)
     where
-      go : Both p ⊎ Flat p → (q : ℕ) × Stop (p + 1) r (p + 1) q → (q : ℕ) × Stop p r p q
-      go (inl h) s = (p, record { above = omega arith; below = omega arith; tried = inr (h .0); level = λ d. refl })
-      go (inr f) (q, s) = (q, record { above = omega (arith, s .above); below = s .below; tried = s .tried; level = λ d. s .level d ∙ sym (f d) })
+      go : (p < r) ⊎ (r ≤ p) → Next p
+      go (inl h) = record {
+        to = p + 1;
+        nearer = omega arith;
+        step = omega arith;
+        stop = elim (flat p) [ inl both ↦ inl (both .0) | inr f ↦ inr (λ d. sym (f d)) ];
+      }
+      go (inr h) =
+          let e : p - 1 + 1 ≡ p = omega arith in
+          record {
+            to = p - 1;
+            nearer = omega arith;
+            step = omega arith;
+            stop = elim (flat (p - 1)) [
+              | inl both ↦ inl (subst (Beside os) e (both .1))
+              | inr f ↦ inr (λ d. f d ∙ ap (λ n. depth d n (side d b)) e)
+            ];
+          }
 
-  down : (k p : ℕ) → r + k ≡ p → (q : ℕ) × Stop r p p q
-  down zero p e = (p, record { above = omega arith; below = omega arith; tried = inl (omega arith); level = λ d. refl })
-  down (suc k) p e = go (flat (r + k)) (down k (r + k) refl)
-    where
-      next : r + k + 1 ≡ p
-      next = omega arith
-
-      go : Both (r + k) ⊎ Flat (r + k) → (q : ℕ) × Stop r (r + k) (r + k) q → (q : ℕ) × Stop r p p q
-      go (inl h) s = (p, record { above = omega arith; below = omega arith; tried = inr (subst (Beside os) next (h .1)); level = λ d. refl })
-      go (inr f) (q, s) = (q, record { above = s .above; below = omega (arith, s .below); tried = s .tried; level = λ d. s .level d ∙ f d ∙ ap (λ n. depth d n (side d b)) next })
+  walk : (k p : ℕ) → apart p r ≡ k → Reached r os b p
+  walk zero p e = record { at = p; tried = inl (omega arith); on-the-way = omega arith; level = λ d. refl }
+  walk (suc k) p e =
+      let n = next p (omega arith) in
+      let g = walk k (n .to) (omega (arith, n .step)) in
+      elim (n .stop) [
+        | inl h ↦ record { at = p; tried = inr h; on-the-way = omega arith; level = λ d. refl }
+        | inr f ↦ record {
+          at = g .at;
+          tried = g .tried;
+          on-the-way = omega (arith, g .on-the-way, n .nearer);
+          level = λ d. g .level d ∙ f d;
+        }
+      ]
 
   pub reach : (p : ℕ) → Reached r os b p
-  reach p = go (cases-lt p r)
-    where
-      go : (p < r) ⊎ (r ≤ p) → Reached r os b p
-      go (inl h) = let s = up (r - p) p (omega arith) in record { at = s .0; tried = s .1 .tried; between = inl (s .1 .above, s .1 .below); level = s .1 .level }
-      go (inr h) = let s = down (p - r) p (omega arith) in record { at = s .0; tried = s .1 .tried; between = inr (s .1 .above, s .1 .below); level = s .1 .level }
+  reach p = walk (apart p r) p refl

@@ -38,16 +38,19 @@ pub record Allotment (b : Book) (p traded : ℕ) : Type 0 where
 abbrev pub Idle : ℕ → ℕ → Book → Type 0
 Idle lo hi b = (p t : ℕ) → lo ≤ p → p ≤ hi → Allotment b p t → t ≡ 0
 
--- what a fixing found is the greatest that the book could trade at one price of the band lo to hi
-pub record Greatest (r lo hi : ℕ) (b : Book) (found : Option Candidate) : Type 0 where
-  -- a price found is of the band, with the volume that can trade there
-  pub low : (c : Candidate) → found ≡ Some c → lo ≤ c .price
-  pub high : (c : Candidate) → found ≡ Some c → c .price ≤ hi
-  pub true-figures : (c : Candidate) → found ≡ Some c → c ≡ candidate r b (c .price)
+-- c is a price of the band lo to hi that trades the most that any allotment could
+pub record Trades-most (r lo hi : ℕ) (b : Book) (c : Candidate) : Type 0 where
+  pub low : lo ≤ c .price
+  pub high : c .price ≤ hi
+  -- its figures are those of the curve
+  pub figures : c ≡ candidate r b (c .price)
   -- no allotment at a price of the band trades more, and one trades just that
-  pub most : (c : Candidate) → found ≡ Some c → (p t : ℕ) → lo ≤ p → p ≤ hi → Allotment b p t → t ≤ c .volume
-  pub attained : (c : Candidate) → found ≡ Some c → Allotment b (c .price) (c .volume)
-  -- there is no price exactly where every allotment trades nothing
+  pub most : (p t : ℕ) → lo ≤ p → p ≤ hi → Allotment b p t → t ≤ c .volume
+  pub attained : Allotment b (c .price) (c .volume)
+
+-- what a fixing found, if anything, trades the most; there is no price exactly where every allotment trades nothing
+pub record Greatest (r lo hi : ℕ) (b : Book) (found : Option Candidate) : Type 0 where
+  pub some : (c : Candidate) → found ≡ Some c → Trades-most r lo hi b c
   pub nothing : found ≡ None → Idle lo hi b
   pub none : Idle lo hi b → found ≡ None
 

@@ -1,7 +1,7 @@
 -- Picking the best of a list, where `precedes a b` says that a ranks before b.
 use mathlib.Core.Path.{_≡_}
-use mathlib.Core.Bool.{Bool, true, false, cond}
-use mathlib.Core.List.{List, [], _∷_}
+use mathlib.Core.Bool.{Bool, false, cond}
+use mathlib.Core.List.{List, []}
 use Rattle.std.specs.Iters.{folded}
 use Rattle.std.specs.shelf.Lists.{All, Has}
 use Rattle.std.specs.declared.option.Option.{Option}
@@ -16,8 +16,8 @@ held-or precedes None x = Some x
 held-or precedes (Some held) x = Some (better-of precedes held x)
 
 -- one after the other, each against the best so far
-abbrev pub best-of : {X : Type 0} → (X → X → Bool) → List X → Option X
-best-of precedes xs = folded (held-or precedes) None xs
+abbrev pub picked : {X : Type 0} → (X → X → Bool) → List X → Option X
+picked precedes xs = folded (held-or precedes) None xs
 
 -- nothing of an empty list alone, else a member that no member ranks before
 abbrev pub Chosen : {X : Type 0} → (X → X → Bool) → List X → Option X → Type 0

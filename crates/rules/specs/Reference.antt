@@ -1,5 +1,5 @@
 -- The next reference price, and the terms that are drawn from an ended day.
-use mathlib.Core.Bool.{Bool, cond}
+use mathlib.Core.Bool.{cond}
 use Prim.Native.Nat.{ℕ}
 use Rattle.std.specs.Options.{valueOr}
 use Rattle.std.specs.declared.result.Result.{Result}

@@ -1,5 +1,4 @@
 // A price that a fixing may take, with what it is ranked by.
-ghost use mathlib.Core.Path.{_≡_};
 ghost use Rattle.rules.specs.Rank.{preferable};
 use crate::rank::Ranked;
 

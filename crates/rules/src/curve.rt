@@ -1,7 +1,6 @@
 // Demand and supply. The curve of a fixing comes from a slice of orders, or from whatever else holds orders.
 ghost use mathlib.Core.Path.{_≡_};
 ghost use mathlib.Core.List.{List};
-ghost use Prim.Native.Nat.{ℕ};
 ghost use denote.Ref.{now as target};
 ghost use lib.ListN.{length};
 ghost use Rattle.std.specs.shelf.Maps.{nth};

@@ -2,7 +2,7 @@
 ghost use mathlib.Core.Path.{_≡_};
 ghost use mathlib.Core.Bool.{Bool, true, false};
 ghost use Prim.Native.Nat.{ℕ};
-ghost use Rattle.rules.specs.Picking.{better-of, held-or, best-of, Chosen};
+ghost use Rattle.rules.specs.Picking.{better-of, held-or, picked, Chosen};
 
 pub trait Ranked {
     ghost identity: { Self → ℕ };
@@ -12,8 +12,8 @@ pub trait Ranked {
 
     law oneway: { (a b : Self) → precedes a b ≡ true → precedes b a ≡ false };
 
-    // where b does not rank before a, nor c before b, c does not rank before a; so ranking before is transitive too
-    law chain: { (a b c : Self) → precedes b a ≡ false → precedes c b ≡ false → precedes c a ≡ false };
+    // where a does not rank before b, nor b before c, a does not rank before c; so ranking before is transitive too
+    law chain: { (a b c : Self) → precedes a b ≡ false → precedes b c ≡ false → precedes a c ≡ false };
 
     law level: { (a b : Self) → precedes a b ≡ false → precedes b a ≡ false → identity a ≡ identity b };
 
@@ -39,7 +39,7 @@ fn pick_or<R: Ranked + Copy>(held: Option<R>, next: R) -> Option<R>
 
 // The best of the items, and of those that are level the first in the slice; nothing from an empty slice.
 pub fn best<R: Ranked + Copy>(items: &[R]) -> Option<R>
-    ensures value { λ r. ⌜ r ≡ best-of precedes (now (items .entry)) ⌝ }
+    ensures value { λ r. ⌜ r ≡ picked precedes (now (items .entry)) ⌝ }
     ensures first { λ r. ⌜ Chosen precedes (now (items .entry)) r ⌝ }
 {
     let mut held = None;
