@@ -1,4 +1,6 @@
 // Works every published figure by the rules, and prints it beside the published one.
+#![tactic(auto)]
+
 mod chain;
 mod days;
 mod published;

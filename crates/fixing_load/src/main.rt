@@ -1,5 +1,7 @@
 // Fixes the price of a full book, 512 buys and 512 sells spread over the band, as often as it is asked to: the load that
 // bench/fixing.sh times. Its arguments are a reference price and a number of rounds.
+#![tactic(auto)]
+
 use anyhow::anyhow;
 use rules::fixing::fixing;
 use rules::order::{Direction, Order};

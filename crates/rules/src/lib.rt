@@ -1,4 +1,6 @@
 // The rules that one symbol's book rests on: values and slices of orders, and no table.
+#![tactic(auto)]
+
 pub mod candidate;
 pub mod curve;
 pub mod entry;

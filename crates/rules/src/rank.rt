@@ -21,13 +21,13 @@ pub trait Ranked {
 
 // The better of two; the one held where they are level.
 pub fn pick<R: Ranked + Copy>(held: R, next: R) -> R
-    ensures { result ≡ better_of precedes held next }
+    ensures { result ≡ better_of R.precedes held next }
 {
     if next.before(&held) { next } else { held }
 }
 
 fn pick_or<R: Ranked + Copy>(held: Option<R>, next: R) -> Option<R>
-    ensures { result ≡ held_or precedes held next }
+    ensures { result ≡ held_or R.precedes held next }
 {
     match held {
         Some(best) => Some(pick(best, next)),
@@ -37,8 +37,8 @@ fn pick_or<R: Ranked + Copy>(held: Option<R>, next: R) -> Option<R>
 
 // The best of the items, and of those that are level the first in the slice; nothing from an empty slice.
 pub fn best<R: Ranked + Copy>(items: &[R]) -> Option<R>
-    ensures value { result ≡ picked precedes items.now }
-    ensures first { Chosen precedes items.now result }
+    ensures value { result ≡ picked R.precedes items.now }
+    ensures first { Chosen R.precedes items.now result }
 {
     let mut held = None;
     for x in items {

@@ -1,4 +1,6 @@
 // Tables of orders: what a table means, and tables that show just that.
+#![tactic(auto)]
+
 pub mod calls;
 mod halves;
 mod place;

@@ -1,5 +1,7 @@
 // Works the same calls on a queue and on slots of as many places, and prints what each answers; then what queues over
 // runs of other lengths answer.
+#![tactic(auto)]
+
 ghost use Rattle.std.specs.Prelude.{◌≡◌, IfOk};
 
 mod scenes;

@@ -7,7 +7,7 @@ loop-i-preserved g c =
     let t = c.args.terms.now in
     let curve = c.args.curve.now in
     searched_more t.reference t.lo t.hi (g.C.Curve.book curve) (g.C.Curve.orders curve) c.loop-i.i c.loop-i.held
-    c.try-order-held.result (omega (arith, c.count-i-end.ensures, c.loop-i-test.true)) c.loop-i.invariant c.try-order-held.ensures
+    c.try_order-held.result (omega (arith, c.count-i-end.ensures, c.loop-i-test.true)) c.loop-i.invariant c.try_order-held.ensures
 
 pub returns : goal.returns
 returns g c =

@@ -6,7 +6,7 @@ use Rattle.rules.proofs.rank.best.Goals as goal
 pub loop-x-preserved : goal.loop-x-preserved
 loop-x-preserved g c =
     picked_more g.R.Ranked.precedes c.args.items.now c.loop-x.x-index
-    c.loop-x.held c.pick-or-held.result c.x-item.result c.loop-x-test.true c.x-item.is c.loop-x.invariant c.pick-or-held.ensures
+    c.loop-x.held c.pick_or-held.result c.x-item.result c.loop-x-test.true c.x-item.is c.loop-x.invariant c.pick_or-held.ensures
 
 pub returns : goal.returns
 returns g c =
