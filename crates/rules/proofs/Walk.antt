@@ -1,6 +1,6 @@
 -- From any price toward the reference, the curve stays level up to the reference or to a price beside an order's.
 use Rattle.std.proofs.Common.{◌≡◌, ℕ, zero, suc, ◌+◌, ◌-◌, ◌<◌, ◌≤◌, ◌⊎◌, List, [], ◌∷◌, sym, refl, ap, ◌∙◌, subst, ap₂, inl, inr, arith}
-use Rattle.std.specs.List.{AllByRecursion as All}
+use Rattle.std.specs.List.{AllByRecursion}
 use Rattle.std.proofs.lemmas.Bool.{cases_eq, cases_lt}
 use Rattle.std.proofs.lemmas.Bool.Decides.{nat_tests}
 use Rattle.rules.specs.Book.{Book, side, Member}
@@ -42,7 +42,7 @@ module _ (r : ℕ) (os : List Order) (b : Book) (covers : Covers os b) where
   abbrev Flat : ℕ → Type 0
   Flat p = (d : Direction) → depth d p (side d b) ≡ depth d (p + 1) (side d b)
 
-  flat_side : (d : Direction) (xs : List Order) (p : ℕ) → All (λ o. Member o os) xs → Both p ⊎ (depth d p xs ≡ depth d (p + 1) xs)
+  flat_side : (d : Direction) (xs : List Order) (p : ℕ) → AllByRecursion (λ o. Member o os) xs → Both p ⊎ (depth d p xs ≡ depth d (p + 1) xs)
   flat_side d [] p m = inr refl
   flat_side d (o ∷ xs) p m = go (cases_eq o.price p) (cases_eq o.price (p + 1)) (flat_side d xs p m.1)
     where

@@ -1,6 +1,6 @@
 -- Demand and supply at a price, what can trade there, and the surplus.
 use Rattle.std.specs.Prelude.{ℕ, ◌+◌, ◌-◌, min, cond, List, [], ◌∷◌}
-use Rattle.std.specs.List.{AllByRecursion as All}
+use Rattle.std.specs.List.{AllByRecursion}
 use Rattle.rules.specs.Book.{Book, side, Member}
 use Rattle.rules.specs.Side.{same, willing}
 use Rattle.rules.specs.declared.candidate.Candidate.{Candidate}
@@ -45,4 +45,4 @@ candidate r b p = record { price = p; volume = tradable b p; surplus = surplus b
 
 -- every order of the book is one of these
 abbrev pub Covers : List Order → Book → Type 0
-Covers os b = (d : Direction) → All (λ o. Member o os) (side d b)
+Covers os b = (d : Direction) → AllByRecursion (λ o. Member o os) (side d b)

@@ -1,7 +1,7 @@
 -- The published figures that the rules are shown to give, as one table.
 use Rattle.std.specs.Prelude.{◌≡◌, ℕ, Bool, true, false, ◌&&◌, List, [], ◌∷◌, Some, None, Option, ◌==◌}
 use Rattle.std.specs.Option.{option_map}
-use Rattle.std.specs.List.{AllByRecursion as All}
+use Rattle.std.specs.List.{AllByRecursion}
 use Rattle.rules.specs.Band.{band, lowest, highest}
 use Rattle.rules.specs.Book.{limit, split}
 use Rattle.rules.specs.Fixing.{fixing}
@@ -48,4 +48,4 @@ figures =
     ∷ []
 
 abbrev pub FiguresHold : Type 0
-FiguresHold = All Holds figures
+FiguresHold = AllByRecursion Holds figures

@@ -1,6 +1,6 @@
 -- Picking the best of a list, where `precedes a b` says that a ranks before b.
 use Rattle.std.specs.Prelude.{◌≡◌, Bool, false, cond, List, [], Some, None, fold, Option}
-use Rattle.std.specs.List.{ContainsAt as Has, AllByRecursion as All}
+use Rattle.std.specs.List.{ContainsAt, AllByRecursion}
 
 -- the better of two, the first where they are level
 abbrev pub better_of : {X : Type 0} → (X → X → Bool) → X → X → X
@@ -17,4 +17,4 @@ picked precedes xs = fold (held_or precedes) None xs
 -- nothing of an empty list alone, else a member that no member ranks before
 abbrev pub Chosen : {X : Type 0} → (X → X → Bool) → List X → Option X → Type 0
 Chosen precedes xs None = xs ≡ []
-Chosen precedes xs (Some best) = Has xs best × All (λ x. precedes x best ≡ false) xs
+Chosen precedes xs (Some best) = ContainsAt xs best × AllByRecursion (λ x. precedes x best ≡ false) xs

@@ -1,6 +1,6 @@
 -- Orders put in rank order: what is added, taken out or changed before is so after.
 use Rattle.std.proofs.Common.{◌≡◌, ℕ, zero, suc, ◌+◌, ◌<◌, Bool, true, false, cond, List, [], ◌∷◌, ◌++◌, length, get_or, Some, None, Option, sym, refl, ap, ◌∙◌, subst, one-add, arith}
-use Rattle.std.specs.List.{AllByRecursion as All, slice_get}
+use Rattle.std.specs.List.{AllByRecursion, slice_get}
 use Rattle.std.proofs.ByRecursion.{All-get_or}
 use Rattle.std.proofs.lemmas.Bool.{and_parts, cond_both}
 use Rattle.std.proofs.lemmas.Bool.Decides.{nat_tests}
@@ -92,12 +92,12 @@ module _ {lt : Order → Order → Bool} (r : Ranking lt) where
       let q = without_itself n x (arranged lt xs) in
       grind arith
 
-all_nth : (P : Order → Type 0) (ys : List Order) (i : ℕ) (o : Order) → All P ys → slice_get ys i ≡ Some o → P o
+all_nth : (P : Order → Type 0) (ys : List Order) (i : ℕ) (o : Order) → AllByRecursion P ys → slice_get ys i ≡ Some o → P o
 all_nth P [] i o a e = let z : ◌≡◌ {A = ℕ} 0 1 = cc in absurd (omega arith)
 all_nth P (y ∷ ys) zero o a e = let h : y ≡ o = cc in subst P h a.0
 all_nth P (y ∷ ys) (suc i) o a e = all_nth P ys i o a.1 e
 
-each : (test : Order → Bool) (xs : List Order) → all test xs ≡ true → All (λ x. test x ≡ true) xs
+each : (test : Order → Bool) (xs : List Order) → all test xs ≡ true → AllByRecursion (λ x. test x ≡ true) xs
 each test [] a = tt
 each test (x ∷ xs) a = let p = and_parts (test x) (all test xs) a in (p.0, each test xs p.1)
 
@@ -117,13 +117,13 @@ module _ {lt : Order → Order → Bool} (r : Ranking lt) where
   abbrev StandsSo : List Order → Order → Type 0
   StandsSo ys x = slice_get ys (ahead lt x ys) ≡ Some x
 
-  each_behind : (y : Order) (ys zs : List Order) → all (lt y) zs ≡ true → All (StandsSo ys) zs → All (StandsSo (y ∷ ys)) zs
+  each_behind : (y : Order) (ys zs : List Order) → all (lt y) zs ≡ true → AllByRecursion (StandsSo ys) zs → AllByRecursion (StandsSo (y ∷ ys)) zs
   each_behind y ys [] a b = tt
   each_behind y ys (z ∷ zs) a b =
       let p = and_parts (lt y z) (all (lt y) zs) a in
       (rw (p.0, one-add) b.0, each_behind y ys zs p.1 b.1)
 
-  each_stands : (ys : List Order) → in_rank lt ys ≡ true → All (StandsSo ys) ys
+  each_stands : (ys : List Order) → in_rank lt ys ≡ true → AllByRecursion (StandsSo ys) ys
   each_stands [] s = tt
   each_stands (y ∷ ys) s =
       let p = and_parts (all (lt y) ys) (in_rank lt ys) s in
@@ -148,22 +148,22 @@ module _ {lt : Order → Order → Bool} (r : Ranking lt) where
       grind arith
 
   -- what holds of each order, in one order and in the other
-  insert_each : (P : Order → Type 0) (o : Order) (ys : List Order) → All P (insert lt o ys) → P o × All P ys
+  insert_each : (P : Order → Type 0) (o : Order) (ys : List Order) → AllByRecursion P (insert lt o ys) → P o × AllByRecursion P ys
   insert_each P o [] a = a
   insert_each P o (y ∷ ys) a =
-      cond_both (lt o y) (o ∷ (y ∷ ys)) (y ∷ insert lt o ys) (λ zs. All P zs → P o × All P (y ∷ ys))
+      cond_both (lt o y) (o ∷ (y ∷ ys)) (y ∷ insert lt o ys) (λ zs. AllByRecursion P zs → P o × AllByRecursion P (y ∷ ys))
       (λ _ b. b) (λ _ b. let rest = insert_each P o ys b.1 in (rest.0, (b.0, rest.1))) a
 
-  each_insert : (P : Order → Type 0) (o : Order) (ys : List Order) → P o → All P ys → All P (insert lt o ys)
+  each_insert : (P : Order → Type 0) (o : Order) (ys : List Order) → P o → AllByRecursion P ys → AllByRecursion P (insert lt o ys)
   each_insert P o [] p a = (p, tt)
   each_insert P o (y ∷ ys) p a =
-      cond_both (lt o y) (o ∷ (y ∷ ys)) (y ∷ insert lt o ys) (All P) (λ _. (p, a)) (λ _. (a.0, each_insert P o ys p a.1))
+      cond_both (lt o y) (o ∷ (y ∷ ys)) (y ∷ insert lt o ys) (AllByRecursion P) (λ _. (p, a)) (λ _. (a.0, each_insert P o ys p a.1))
 
-  arranged_each : (P : Order → Type 0) (xs : List Order) → All P (arranged lt xs) → All P xs
+  arranged_each : (P : Order → Type 0) (xs : List Order) → AllByRecursion P (arranged lt xs) → AllByRecursion P xs
   arranged_each P [] a = tt
   arranged_each P (x ∷ xs) a = let p = insert_each P x (arranged lt xs) a in (p.0, arranged_each P xs p.1)
 
-  each_arranged : (P : Order → Type 0) (xs : List Order) → All P xs → All P (arranged lt xs)
+  each_arranged : (P : Order → Type 0) (xs : List Order) → AllByRecursion P xs → AllByRecursion P (arranged lt xs)
   each_arranged P [] a = tt
   each_arranged P (x ∷ xs) a = each_insert P x (arranged lt xs) a.0 (each_arranged P xs a.1)
 
@@ -173,7 +173,7 @@ module _ {lt : Order → Order → Bool} (r : Ranking lt) where
         let stands = arranged_each (StandsSo (arranged lt xs)) xs (each_stands (arranged lt xs) (in_rank-arranged r xs d)) in
         subst (λ n. slice_get (arranged lt xs) n ≡ Some (get_or xs i e)) (counted-arranged r (λ x. lt x (get_or xs i e)) xs) (All-get_or (StandsSo (arranged lt xs)) xs i e h stands)
 
-    pub none_ahead : (i : ℕ) → All (λ x. ahead lt x xs ≡ i → ⊥) xs → slice_get (arranged lt xs) i ≡ None
+    pub none_ahead : (i : ℕ) → AllByRecursion (λ x. ahead lt x xs ≡ i → ⊥) xs → slice_get (arranged lt xs) i ≡ None
     none_ahead i a = go (slice_get (arranged lt xs) i) refl
       where
         go : (o : Option Order) → slice_get (arranged lt xs) i ≡ o → o ≡ None

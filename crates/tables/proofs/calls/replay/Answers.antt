@@ -19,10 +19,10 @@ loop-call-preserved g c =
     let moved : next ≡ after cap b call = c.work.ensures.lists ∙ ap (λ (x : Capacity). after x b call) inv.1 in
     let told : c.work.result ≡ reply cap b call = c.work.ensures.answer ∙ ap (λ (x : Capacity). reply x b call) inv.1 in
     let more = replayed_more cap calls i c.loop-call-test.true Clear b next moved (vec_items c.loop-call.given) c.work.result told inv.0 in (
-      subst (λ (given : List Reply). Replayed cap calls (i + 1) given next) (sym c.push-reserved.ensures.items) more,
+      subst (λ (given : List Reply). Replayed cap calls (i + 1) given next) (sym c.push_reserved.ensures.items) more,
       c.work.ensures.room ∙ inv.1,
-      omega (arith, inv.2, c.push-reserved.ensures.len),
-      omega (arith, inv.3, c.push-reserved.ensures.capacity),
+      omega (arith, inv.2, c.push_reserved.ensures.len),
+      omega (arith, inv.3, c.push_reserved.ensures.capacity),
     )
 
 pub returns : goal.returns

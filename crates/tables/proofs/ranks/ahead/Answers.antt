@@ -4,7 +4,7 @@ use Rattle.rules.specs.Rank.{before}
 use Rattle.rules.specs.Book.{no_order}
 use Rattle.tables.specs.Listing.{ahead}
 use Rattle.tables.proofs.ranks.ahead.Goals as goal
-use Rattle.tables.proofs.ranks.ahead.Goals.{then-ranks-before, else-ranks-before}
+use Rattle.tables.proofs.ranks.ahead.Goals.{then-ranks_before, else-ranks_before}
 
 pub loop-other-preserved : goal.loop-other-preserved
 loop-other-preserved g c =
@@ -12,9 +12,9 @@ loop-other-preserved g c =
     let i = c.loop-other.other-index in
     let e = at_drop_more f c.args.row.now i no_order c.loop-other-test.true in
     let one = λ (t : Bool). cond t 1 0 + f (drop (i + 1) c.args.row.now) in
-    elim c.if-ranks-before.branch [
-      | then-ranks-before w ↦ let h = e ∙ ap one (sym w.if-ranks-before.ensures) in (omega arith, omega arith)
-      | else-ranks-before w ↦ let h = e ∙ ap one (sym w.if-ranks-before.ensures) in (omega arith, omega arith)
+    elim c.if-ranks_before.branch [
+      | then-ranks_before w ↦ let h = e ∙ ap one (sym w.if-ranks_before.ensures) in (omega arith, omega arith)
+      | else-ranks_before w ↦ let h = e ∙ ap one (sym w.if-ranks_before.ensures) in (omega arith, omega arith)
     ]
 
 pub returns : goal.returns

@@ -9,11 +9,11 @@ returns-in-Some c =
     let s = c.in-Some.ensures in
     (held_on (book_of c.args.buys.now c.args.sells.now) c.args.number Buy c.in-Some.index s, s)
 
-pub returns-in-Some-index-of : goal.returns-in-Some-index-of
-returns-in-Some-index-of c =
-    let s = c.in-Some-index-of.ensures in
-    (held_on (book_of c.args.buys.now c.args.sells.now) c.args.number Sell c.in-Some-index-of.index s, s)
+pub returns-in-Some-index_of : goal.returns-in-Some-index_of
+returns-in-Some-index_of c =
+    let s = c.in-Some-index_of.ensures in
+    (held_on (book_of c.args.buys.now c.args.sells.now) c.args.number Sell c.in-Some-index_of.index s, s)
 
 pub returns-in-None : goal.returns-in-None
 returns-in-None c =
-    held_none (book_of c.args.buys.now c.args.sells.now) c.args.number (omega (arith, c.in-default.ensures, c.in-None.ensures))
+    held_none (book_of c.args.buys.now c.args.sells.now) c.args.number (omega (arith, c.in_default.ensures, c.in-None.ensures))

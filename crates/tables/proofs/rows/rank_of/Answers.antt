@@ -3,14 +3,14 @@ use Rattle.std.proofs.lemmas.List.Sums.{prefix_len-drop_yes, prefix_len-drop_no,
 use Rattle.rules.specs.Rank.{before}
 use Rattle.tables.proofs.rows.rank_of.Goals as goal
 
-pub returns-then-ranks-before : goal.returns-then-ranks-before
-returns-then-ranks-before g c =
-    let e = prefix_len-drop_no (λ x. not (before g.S.Quotes.way c.args.order.now x)) c.args.row.now c.loop-i.i _ c.loop-i-test.true (ap not (sym c.if-ranks-before.ensures)) in
+pub returns-then-ranks_before : goal.returns-then-ranks_before
+returns-then-ranks_before g c =
+    let e = prefix_len-drop_no (λ x. not (before g.S.Quotes.way c.args.order.now x)) c.args.row.now c.loop-i.i _ c.loop-i-test.true (ap not (sym c.if-ranks_before.ensures)) in
     record { place = omega arith; within = omega arith }
 
 pub loop-i-preserved : goal.loop-i-preserved
 loop-i-preserved g c =
-    let e = prefix_len-drop_yes (λ x. not (before g.S.Quotes.way c.args.order.now x)) c.args.row.now c.loop-i.i _ c.loop-i-test.true (ap not (sym c.if-ranks-before.ensures)) in
+    let e = prefix_len-drop_yes (λ x. not (before g.S.Quotes.way c.args.order.now x)) c.args.row.now c.loop-i.i _ c.loop-i-test.true (ap not (sym c.if-ranks_before.ensures)) in
     omega arith
 
 pub returns : goal.returns

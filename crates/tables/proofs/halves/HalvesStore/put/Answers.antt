@@ -13,8 +13,8 @@ returns-in-Buy c =
     let l = c.requires.kept in
     let o = c.args.order in
     let room : h.buys < h.half = omega (arith, rw c.in-Buy.is at c.requires.room, first_count h l) in
-    let e = c.insert-into.ensures ∙ ap (insert (before Buy) o) (first_part h l (h.half - 0) (omega arith)) in
-    let t = first_edit h l o.direction (λ d. insert (before d) o) c.insert-into.new.row (h.buys + 1) (omega arith) (h.half - 0) (omega arith) c.in-Buy.is c.insert-into.auto.row e in
+    let e = c.insert_into.ensures ∙ ap (insert (before Buy) o) (first_part h l (h.half - 0) (omega arith)) in
+    let t = first_edit h l o.direction (λ d. insert (before d) o) c.insert_into.new.row (h.buys + 1) (omega arith) (h.half - 0) (omega arith) c.in-Buy.is c.insert_into.auto.row e in
     let s = sound_inserted (capacity h) (stored h) o l.sound c.requires.room (free (stored h) o.number c.requires.new) in
     record {
       lists = t.0;
@@ -28,8 +28,8 @@ returns-in-Sell c =
     let l = c.requires.kept in
     let o = c.args.order in
     let room : h.sells < h.half = omega (arith, rw c.in-Sell.is at c.requires.room, second_count h l) in
-    let e = c.insert-into-in-Sell.ensures ∙ ap (insert (before Sell) o) (second_part h l) in
-    let t = second_edit h l o.direction (λ d. insert (before d) o) c.insert-into-in-Sell.new.row (h.sells + 1) (omega arith) c.in-Sell.is c.insert-into-in-Sell.auto.row e in
+    let e = c.insert_into-in-Sell.ensures ∙ ap (insert (before Sell) o) (second_part h l) in
+    let t = second_edit h l o.direction (λ d. insert (before d) o) c.insert_into-in-Sell.new.row (h.sells + 1) (omega arith) c.in-Sell.is c.insert_into-in-Sell.auto.row e in
     let s = sound_inserted (capacity h) (stored h) o l.sound c.requires.room (free (stored h) o.number c.requires.new) in
     record {
       lists = t.0;

@@ -8,8 +8,8 @@ use Rattle.tables.proofs.Halving.{first_part, second_part, first_count, second_c
 use Rattle.tables.proofs.Keeps.{volume_set_at, sound_volume_set_at}
 use Rattle.tables.proofs.halves.HalvesStore.set_volume_at.Goals as goal
 
-pub set-volume-at-requires-in-Sell : goal.set-volume-at-requires-in-Sell
-set-volume-at-requires-in-Sell c =
+pub set_volume_at-requires-in-Sell : goal.set_volume_at-requires-in-Sell
+set_volume_at-requires-in-Sell c =
     let h = c.args.self.now in
     let l = c.requires.kept in
     rw (length-take, length-drop) (omega (arith, rw c.in-Sell.is at c.requires.within, second_count h l))
@@ -43,8 +43,8 @@ returns-in-Sell c =
     let v = c.args.volume in
     let f : List Order → List Order = λ xs. set xs i (with_volume v (get_or xs i no_order)) in
     let below : i < h.sells = omega (arith, rw c.in-Sell.is at c.requires.within, second_count h l) in
-    let e = ap (take h.sells) c.set-volume-at-in-Sell.ensures ∙ take-set_volume (take (length h.run.now - h.half) (drop h.half h.run.now)) h.sells i v no_order below ∙ ap f (second_part h l) in
-    let t = second_edit h l p.direction (λ d. f) c.set-volume-at-in-Sell.new.row h.sells l.sells c.in-Sell.is c.set-volume-at-in-Sell.auto.row e in
+    let e = ap (take h.sells) c.set_volume_at-in-Sell.ensures ∙ take-set_volume (take (length h.run.now - h.half) (drop h.half h.run.now)) h.sells i v no_order below ∙ ap f (second_part h l) in
+    let t = second_edit h l p.direction (λ d. f) c.set_volume_at-in-Sell.new.row h.sells l.sells c.in-Sell.is c.set_volume_at-in-Sell.auto.row e in
     let s = sound_volume_set_at (capacity h) b l.sound p.direction i c.requires.within v no_order in
     record {
       lists = λ n at. t.0 ∙ volume_set_at b n (l.sound.once n) p.direction i at v no_order;

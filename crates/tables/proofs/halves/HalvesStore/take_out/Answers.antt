@@ -7,8 +7,8 @@ use Rattle.tables.proofs.Halving.{first_part, second_part, second_count, first_e
 use Rattle.tables.proofs.Keeps.{removed_at, sound_removed_at}
 use Rattle.tables.proofs.halves.HalvesStore.take_out.Goals as goal
 
-pub remove-at-requires-in-Sell : goal.remove-at-requires-in-Sell
-remove-at-requires-in-Sell c =
+pub remove_at-requires-in-Sell : goal.remove_at-requires-in-Sell
+remove_at-requires-in-Sell c =
     let h = c.args.self.now in
     let l = c.requires.kept in
     (omega (arith, rw c.in-Sell.is at c.requires.within, second_count h l), rw (length-take, length-drop) (omega arith))
@@ -19,8 +19,8 @@ returns-in-Buy c =
     let l = c.requires.kept in
     let p = c.args.place in
     let b = stored h in
-    let e = c.remove-at.ensures ∙ ap (λ (xs : List Order). remove xs p.index) (first_part h l (h.half - 0) (omega arith)) in
-    let t = first_edit h l p.direction (λ d xs. remove xs p.index) c.remove-at.new.row (h.buys - 1) (omega arith) (h.half - 0) (omega arith) c.in-Buy.is c.remove-at.auto.row e in
+    let e = c.remove_at.ensures ∙ ap (λ (xs : List Order). remove xs p.index) (first_part h l (h.half - 0) (omega arith)) in
+    let t = first_edit h l p.direction (λ d xs. remove xs p.index) c.remove_at.new.row (h.buys - 1) (omega arith) (h.half - 0) (omega arith) c.in-Buy.is c.remove_at.auto.row e in
     let s = sound_removed_at (capacity h) b l.sound p.direction p.index c.requires.within in
     record {
       lists = λ n at. t.0 ∙ removed_at b n (l.sound.once n) p.direction p.index at;
@@ -34,8 +34,8 @@ returns-in-Sell c =
     let l = c.requires.kept in
     let p = c.args.place in
     let b = stored h in
-    let e = c.remove-at-in-Sell.ensures ∙ ap (λ (xs : List Order). remove xs p.index) (second_part h l) in
-    let t = second_edit h l p.direction (λ d xs. remove xs p.index) c.remove-at-in-Sell.new.row (h.sells - 1) (omega arith) c.in-Sell.is c.remove-at-in-Sell.auto.row e in
+    let e = c.remove_at-in-Sell.ensures ∙ ap (λ (xs : List Order). remove xs p.index) (second_part h l) in
+    let t = second_edit h l p.direction (λ d xs. remove xs p.index) c.remove_at-in-Sell.new.row (h.sells - 1) (omega arith) c.in-Sell.is c.remove_at-in-Sell.auto.row e in
     let s = sound_removed_at (capacity h) b l.sound p.direction p.index c.requires.within in
     record {
       lists = λ n at. t.0 ∙ removed_at b n (l.sound.once n) p.direction p.index at;
