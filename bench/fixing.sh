@@ -1,9 +1,9 @@
 #!/bin/sh
 # Times the fixing price of 512 buys and 512 sells at the reference prices 1,000 and 1,000,000. The second band has
 # 1,000 times as many prices; it must not take more than three times as long.
-#   rt check fixing_load && bench/fixing.sh [ROUNDS]
+#   (cd crates/fixing_load && rt run -- 1000 1) && bench/fixing.sh [ROUNDS]
 set -eu
-program=$(dirname "$0")/../target/bin/fixing_load
+program=$(dirname "$0")/../crates/fixing_load/out/fixing_load
 rounds=${1:-200}
 
 milliseconds() {

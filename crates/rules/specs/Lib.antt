@@ -6,6 +6,7 @@ pub mod Curve
 pub mod Entry
 pub mod Figures
 pub mod Fixing
+pub mod Keys
 pub mod Picking
 pub mod Rank
 pub mod Reference
@@ -13,4 +14,3 @@ pub mod Refusal
 pub mod Search
 pub mod Side
 pub mod Terms
-pub mod Keys
