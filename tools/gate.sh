@@ -3,6 +3,7 @@
 # which the gate itself lets pass. To be run at the top of the repository.
 log=$(mktemp)
 status=$(mktemp)
+trap 'rm -f "$log" "$status"' EXIT
 {
     rt ci 2>&1
     echo $? > "$status"

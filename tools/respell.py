@@ -5,9 +5,9 @@
 
 It collects the names that specs/ and proofs/ declare with a dash and gives each its spelling of today: a type in camel
 case, any other name in snake case. A lemma whose name joins two names of definitions keeps its dash. The clauses of
-src/ follow; the functions of src/, strings and comments there stay. NAMES has what goes by no rule: the aliases under
-which clauses import a definition beside a function of the same name, and constructors that would fall together with a
-definition.
+src/ follow; the functions of src/, strings and comments there stay. What goes by no rule is in ALIASES, the names under
+which clauses import a definition beside a function of the same name, and in CONSTRUCTORS, those that would fall
+together with a definition.
 """
 import pathlib
 import re
