@@ -3,7 +3,7 @@ use Rattle.std.specs.Prelude.{ℕ, Bool, true, false, ◌&&◌, Option, ◌==◌
 use Rattle.rules.specs.declared.reference.DayRecord.{DayRecord}
 use Rattle.rules.specs.declared.reference.EndedDay.{EndedDay}
 use Rattle.rules.specs.declared.terms.Terms.{Terms}
-use Rattle.figures.specs.declared.verdict.Day.{Day}
+use Rattle.figures.specs.declared.shown.Day.{Day}
 use Rattle.figures.specs.declared.published.Best.{Best}
 use Rattle.figures.specs.declared.published.Best.TheVariants.{Pair, Lone}
 use Rattle.figures.specs.declared.published.Stood.{Stood}
@@ -22,7 +22,6 @@ throughout Unsaid = false
 abbrev pub left : ℕ → ℕ → Best → Stood → Option ℕ → DayRecord
 left lo hi best stood trade =
     record {
-      closed = true;
       last_trade = trade;
       buy_at_high = throughout stood && (at_limits lo hi best).0;
       sell_at_low = throughout stood && (at_limits lo hi best).1;

@@ -1,6 +1,6 @@
 -- When given figures agree with published ones.
 use Rattle.std.specs.Prelude.{ℕ, ◌+◌, ◌%◌, ◌^◌, Bool, false, cond, ◌&&◌, Some, None, Option, ◌==◌}
-use Rattle.figures.specs.declared.verdict.Day.{Day}
+use Rattle.figures.specs.declared.shown.Day.{Day}
 use Rattle.figures.specs.declared.verdict.Tally.{Tally}
 use Rattle.figures.specs.declared.verdict.Verdict.{Verdict}
 use Rattle.figures.specs.declared.verdict.Verdict.TheVariants.{Agrees, KnownDifference, Differs}

@@ -4,8 +4,10 @@ ghost use Rattle.figures.specs.Days.{day_of};
 
 use crate::days::left_by;
 use crate::published::Row;
-use crate::verdict::{Day, Tally, judge};
-use anyhow::anyhow;
+use crate::report::Report;
+use crate::shown::Day;
+use crate::verdict::judge;
+use anyhow::Context;
 use rules::reference::EndedDay;
 use rules::terms::Terms;
 
@@ -24,54 +26,34 @@ fn figures_of(terms: &Terms, day: &EndedDay) -> Day
     }
 }
 
-fn show_row(
-    rt: HostRuntime,
-    tally: &mut Tally,
-    symbol: char,
-    row: &Row,
-    given: Day,
-) -> anyhow::Result<()> {
-    let published = Day {
-        reference: row.reference,
-        lowest: row.lowest,
-        highest: row.highest,
-        next: row.next,
-    };
-    let v = judge(given, published, row.known_lowest);
-    tally.count(v);
-    print!(rt; "{symbol} {}: {}{}", row.day, row.best, row.stood)?;
-    match row.last_trade {
-        Some(price) => print!(rt; ", last trade {price}")?,
-        None => print!(rt; ", no trade")?,
+impl<R: Print> Report<R> {
+    fn show_row(&mut self, symbol: char, row: &Row, given: Day) -> anyhow::Result<()> {
+        let Row {
+            day,
+            course,
+            figures,
+            known_lowest,
+        } = row;
+        self.tell(
+            format_args!("{symbol} {day}: {course}: rules {given}; published {figures}"),
+            judge(given, *figures, *known_lowest),
+        )
     }
-    println!(rt; ": rules {given}; published {published}: {v}")?;
-    Ok(())
-}
 
-fn first_terms(rows: &[Row]) -> anyhow::Result<Terms> {
-    let Some(row) = rows.first() else {
-        return Err(anyhow!("there is no row"));
-    };
-    match Terms::new(row.reference, BLOCK) {
-        Ok(terms) => Ok(terms),
-        Err(_) => Err(anyhow!("the first terms are refused")),
+    pub fn show_days(&mut self, symbol: char, rows: &[Row]) -> anyhow::Result<()> {
+        let first = rows.first().context("there is no row")?;
+        // the texts alone, as of the program's other terms
+        let mut terms = Terms::new(first.figures.reference, BLOCK)
+            .ok()
+            .context("the first terms are refused")?;
+        for row in rows {
+            let day = EndedDay::new(&terms, Some(left_by(&terms, &row.course)));
+            self.show_row(symbol, row, figures_of(&terms, &day))?;
+            terms = day
+                .next_terms(BLOCK)
+                .ok()
+                .context("the next terms are refused")?;
+        }
+        Ok(())
     }
-}
-
-pub fn show_days(
-    rt: HostRuntime,
-    tally: &mut Tally,
-    symbol: char,
-    rows: &[Row],
-) -> anyhow::Result<()> {
-    let mut terms = first_terms(rows)?;
-    for row in rows {
-        let day = EndedDay::new(&terms, left_by(&terms, row.best, row.stood, row.last_trade));
-        show_row(rt, tally, symbol, row, figures_of(&terms, &day))?;
-        terms = match day.next_terms(BLOCK) {
-            Ok(next) => next,
-            Err(_) => return Err(anyhow!("the next terms are refused")),
-        };
-    }
-    Ok(())
 }

@@ -1,64 +1,99 @@
 // What is compared, and how it is printed.
 ghost use Rattle.std.specs.Prelude.{◌≡◌};
-ghost use Rattle.rules.specs.Entry.{answer};
-ghost use Rattle.figures.specs.Shown.{found};
+ghost use Rattle.figures.specs.Shown.{found, limits};
 
-use crate::published::{Asked, Best, Stood};
+use crate::published::{Asked, Best, Course, Stood};
 use rules::candidate::Candidate;
-use rules::order::{Direction, Order};
+use rules::order::Order;
 use rules::refusal::Refusal;
 use std::fmt;
 
-// What a check on entry comes to: nothing, or the number of its refusal.
-#[derive(Clone, Copy, PartialEq)]
-pub struct Check(pub Option<u32>);
+// The lowest and the highest price of a band.
+#[derive(Clone, Copy, Debug, PartialEq, Eq)]
+pub struct Limits {
+    pub lowest: u32,
+    pub highest: u32,
+}
 
-impl Check {
-    pub fn of(r: Result<(), Refusal>) -> Check
-        ensures { result.0 ≡ answer r }
-    {
-        match r {
-            Ok(()) => Check(None),
-            Err(refusal) => Check(Some(refusal.number())),
-        }
+impl From<(u32, u32)> for Limits {
+    ghost from_gives = { λ band l. l ≡ limits band };
+
+    fn from((lowest, highest): (u32, u32)) -> Limits {
+        Limits { lowest, highest }
     }
 }
 
-impl fmt::Display for Check {
+impl fmt::Display for Limits {
     fn fmt<W: fmt::Write>(&self, f: &mut fmt::Formatter<W>) -> fmt::Result {
-        match self.0 {
-            None => f.write_str("passes"),
-            Some(number) => write!(f, "refused {number}"),
-        }
+        let Limits { lowest, highest } = self;
+        write!(f, "{lowest} to {highest}")
     }
 }
 
-// What a fixing comes to: a price with the volume that trades at it, or none.
-#[derive(Clone, Copy, PartialEq)]
-pub enum Fixed {
-    At { price: u32, volume: u128 },
-    Nothing,
+// The figures of a day, one by one, since the lowest price alone may be known to differ.
+#[derive(Clone, Copy, Debug, PartialEq, Eq)]
+pub struct Day {
+    pub reference: u32,
+    pub lowest: u32,
+    pub highest: u32,
+    pub next: u32,
 }
 
-impl Fixed {
-    pub fn of(c: Option<Candidate>) -> Fixed
-        ensures { result ≡ found c }
-    {
-        match c {
-            Some(c) => Fixed::At {
-                price: c.price,
-                volume: c.volume,
-            },
-            None => Fixed::Nothing,
-        }
+impl fmt::Display for Day {
+    fn fmt<W: fmt::Write>(&self, f: &mut fmt::Formatter<W>) -> fmt::Result {
+        let Day {
+            reference,
+            lowest,
+            highest,
+            next,
+        } = self;
+        write!(
+            f,
+            "reference {reference}, band {lowest} to {highest}, next {next}"
+        )
+    }
+}
+
+// A price, and the volume that trades at it.
+#[derive(Clone, Copy, Debug, PartialEq, Eq)]
+pub struct Struck {
+    pub price: u32,
+    pub volume: u128,
+}
+
+// What a fixing comes to, or none.
+#[derive(Clone, Copy, Debug, PartialEq, Eq)]
+pub struct Fixed(pub Option<Struck>);
+
+impl From<Option<Candidate>> for Fixed {
+    ghost from_gives = { λ c fixed. fixed.0 ≡ found c };
+
+    fn from(c: Option<Candidate>) -> Fixed {
+        Fixed(c.map(|c| Struck {
+            price: c.price,
+            volume: c.volume,
+        }))
     }
 }
 
 impl fmt::Display for Fixed {
     fn fmt<W: fmt::Write>(&self, f: &mut fmt::Formatter<W>) -> fmt::Result {
-        match self {
-            Fixed::At { price, volume } => write!(f, "{price} for {volume}"),
-            Fixed::Nothing => f.write_str("none"),
+        match self.0 {
+            Some(Struck { price, volume }) => write!(f, "{price} for {volume}"),
+            None => f.write_str("none"),
+        }
+    }
+}
+
+// What a check on entry answers.
+#[derive(Clone, Copy, Debug, PartialEq, Eq)]
+pub struct Answer(pub Result<(), Refusal>);
+
+impl fmt::Display for Answer {
+    fn fmt<W: fmt::Write>(&self, f: &mut fmt::Formatter<W>) -> fmt::Result {
+        match self.0 {
+            Ok(()) => f.write_str("passes"),
+            Err(refusal) => write!(f, "refused {}", refusal.number()),
         }
     }
 }
@@ -72,17 +107,16 @@ impl fmt::Display for Asked {
     }
 }
 
-// An order as side and price/volume.
-#[derive(Drop)]
-pub struct Line<'a>(pub &'a Order);
+// Orders, each as side and price/volume.
+#[derive(Clone, Copy)]
+pub struct Lines<'a>(pub &'a [Order]);
 
-impl<'a> fmt::Display for Line<'a> {
+impl fmt::Display for Lines<'_> {
     fn fmt<W: fmt::Write>(&self, f: &mut fmt::Formatter<W>) -> fmt::Result {
-        let side = match self.0.direction {
-            Direction::Buy => "buy",
-            Direction::Sell => "sell",
-        };
-        write!(f, "{side} {}/{}", self.0.price, self.0.volume)
+        for o in self.0 {
+            write!(f, " {} {}/{}", o.direction, o.price, o.volume)?;
+        }
+        Ok(())
     }
 }
 
@@ -97,10 +131,20 @@ impl fmt::Display for Best {
 
 impl fmt::Display for Stood {
     fn fmt<W: fmt::Write>(&self, f: &mut fmt::Formatter<W>) -> fmt::Result {
-        match self {
-            Stood::Throughout => f.write_str(" throughout"),
-            Stood::Part => f.write_str(" for a part"),
-            Stood::Unsaid => Ok(()),
+        f.write_str(match self {
+            Stood::Throughout => " throughout",
+            Stood::Part => " for a part",
+            Stood::Unsaid => "",
+        })
+    }
+}
+
+impl fmt::Display for Course {
+    fn fmt<W: fmt::Write>(&self, f: &mut fmt::Formatter<W>) -> fmt::Result {
+        write!(f, "{}{}", self.best, self.stood)?;
+        match self.last_trade {
+            Some(price) => write!(f, ", last trade {price}"),
+            None => f.write_str(", no trade"),
         }
     }
 }

@@ -2,6 +2,7 @@
 ghost use Rattle.std.specs.Prelude.{◌≡◌};
 ghost use Rattle.figures.specs.Verdicts.{plain, of_day, counted};
 
+use crate::shown::Day;
 use std::fmt;
 
 #[derive(Clone, Copy)]
@@ -13,45 +14,21 @@ pub enum Verdict {
 
 impl fmt::Display for Verdict {
     fn fmt<W: fmt::Write>(&self, f: &mut fmt::Formatter<W>) -> fmt::Result {
-        match self {
-            Verdict::Agrees => f.write_str("agrees"),
-            Verdict::KnownDifference => f.write_str("known difference"),
-            Verdict::Differs => f.write_str("DIFFERS"),
-        }
+        f.write_str(match self {
+            Verdict::Agrees => "agrees",
+            Verdict::KnownDifference => "known difference",
+            Verdict::Differs => "DIFFERS",
+        })
     }
 }
 
-pub fn agreement(same: bool) -> Verdict
-    ensures { result ≡ plain same }
+pub fn agreement<T: PartialEq>(given: &T, published: &T) -> Verdict
+    ensures { result ≡ plain (T.eq given.now published.now) }
 {
-    if same {
+    if given == published {
         Verdict::Agrees
     } else {
         Verdict::Differs
-    }
-}
-
-// The figures of a day.
-#[derive(Clone, Copy)]
-pub struct Day {
-    pub reference: u32,
-    pub lowest: u32,
-    pub highest: u32,
-    pub next: u32,
-}
-
-impl fmt::Display for Day {
-    fn fmt<W: fmt::Write>(&self, f: &mut fmt::Formatter<W>) -> fmt::Result {
-        let Day {
-            reference,
-            lowest,
-            highest,
-            next,
-        } = self;
-        write!(
-            f,
-            "reference {reference}, band {lowest} to {highest}, next {next}"
-        )
     }
 }
 
@@ -59,22 +36,22 @@ impl fmt::Display for Day {
 pub fn judge(given: Day, published: Day, known_lowest: Option<u32>) -> Verdict
     ensures { result ≡ of_day given published known_lowest }
 {
-    if given.reference != published.reference {
-        return Verdict::Differs;
-    }
-    if given.highest != published.highest || given.next != published.next {
-        return Verdict::Differs;
-    }
-    if given.lowest == published.lowest {
-        return Verdict::Agrees;
-    }
-    match known_lowest {
-        Some(lowest) if lowest == given.lowest => Verdict::KnownDifference,
-        _ => Verdict::Differs,
+    let but_for_lowest = Day {
+        lowest: published.lowest,
+        ..given
+    };
+    if but_for_lowest != published {
+        Verdict::Differs
+    } else if given.lowest == published.lowest {
+        Verdict::Agrees
+    } else if known_lowest == Some(given.lowest) {
+        Verdict::KnownDifference
+    } else {
+        Verdict::Differs
     }
 }
 
-#[derive(Clone, Copy)]
+#[derive(Clone, Copy, Default)]
 pub struct Tally {
     pub agree: u64,
     pub known: u64,

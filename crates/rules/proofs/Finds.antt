@@ -1,6 +1,6 @@
 -- The reference price and the prices at and beside the orders' hold the best price of the band.
 use Rattle.std.proofs.Common.{◌≡◌, ℕ, zero, suc, ◌+◌, ◌-◌, ◌<◌, ◌≤◌, min, Bool, true, false, cond, ◌⊎◌, List, [], ◌∷◌, length, get_or, take, fold, sym, refl, ap, ◌∙◌, subst, ap₂, inl, inr, arith, take_all}
-use Rattle.std.specs.List.{slice_get}
+use Rattle.std.specs.List.{slice_get, Any}
 use Rattle.std.proofs.lemmas.Option.{slice_get-get_or}
 use Rattle.std.proofs.lemmas.List.Sums.{fold_more}
 use Rattle.std.proofs.lemmas.Bool.{cases_lt, cases_eq}
@@ -23,6 +23,11 @@ no_better a b v s d = grind (arith, nat_tests)
 -- a price on the way from p to r is nearer to r, or p itself
 nearer : (r p q : ℕ) → apart p q + apart q r ≡ apart p r → (apart q r < apart p r) ⊎ ((apart p r ≡ apart q r) × (q ≤ p))
 nearer r p q h = elim (cases_eq p q) [ inl e ↦ inr (omega arith) | inr n ↦ inl (omega arith) ]
+
+-- of a list, either the first passes or one of the rest
+any_cases : (P : Order → Type 0) (o : Order) (os : List Order) → Any P (o ∷ os) → P o ⊎ Any P os
+any_cases P o os (zero, x, k, e, h) = inl (subst P (sym e) h)
+any_cases P o os (suc k, x, l, e, h) = inr (k, x, omega arith, e, h)
 
 module _ (r lo hi : ℕ) (b : Book) where
   -- h is the best of the prices of the band that T names
@@ -117,10 +122,10 @@ module _ (r lo hi : ℕ) (b : Book) where
 
   held_all : lo ≤ hi → (T : ℕ → Type 0) (h : Candidate) (os : List Order) → Held r lo hi b T h
       → Held r lo hi b (λ p. T p ⊎ Beside os p) (fold (λ c o. tried_beside r lo hi b c o.price) h os)
-  held_all w T h [] s = held_like T _ h (λ p _ _ t. elim t [ inl x ↦ x | inr e ↦ absurd e ]) s
+  held_all w T h [] s = held_like T _ h (λ p _ _ t. elim t [ inl x ↦ x | inr e ↦ absurd (omega (arith, e.2)) ]) s
   held_all w T h (o ∷ os) s =
       held_like (λ p. (T p ⊎ Touches o.price p) ⊎ Beside os p) _ _
-      (λ p _ _ t. elim t [ inl x ↦ inl (inl x) | inr y ↦ elim y [ inl u ↦ inl (inr u) | inr v ↦ inr v ] ])
+      (λ p _ _ t. elim t [ inl x ↦ inl (inl x) | inr y ↦ elim (any_cases _ o os y) [ inl u ↦ inl (inr u) | inr v ↦ inr v ] ])
       (held_all w (λ p. T p ⊎ Touches o.price p) (tried_beside r lo hi b h o.price) os (held_beside w T h o.price s))
 
   -- where the curve is as at p, and the reference is no farther, nothing is lost
@@ -132,7 +137,7 @@ module _ (r lo hi : ℕ) (b : Book) where
       (nearer r p g.at g.on_the_way)
 
   -- of orders that cover the book, the search finds what the search over the whole band finds
-  pub found : lo ≤ r → r ≤ hi → (os : List Order) → Covers os b
+  found : lo ≤ r → r ≤ hi → (os : List Order) → Covers os b
       → searched r lo hi b os ≡ best_price r b lo (hi - lo)
   found l k os covers =
       let h = searched r lo hi b os in
@@ -149,14 +154,15 @@ module _ (r lo hi : ℕ) (b : Book) where
       } in
       one_best h (best_price r b lo (hi - lo)) all (band_best (omega arith))
 
-  -- the step and the end of a loop over the orders
-  pub searched_more : (os : List Order) (i : ℕ) (h next : Candidate) → i < length os → h ≡ searched r lo hi b (take i os)
-      → next ≡ tried_at r lo hi b h (slice_get os i) → next ≡ searched r lo hi b (take (i + 1) os)
-  searched_more os i h next l e f =
+  -- the step of a loop over the orders
+  pub searched_more : (os : List Order) (i : ℕ) → i < length os
+      → searched r lo hi b (take (i + 1) os) ≡ tried_at r lo hi b (searched r lo hi b (take i os)) (slice_get os i)
+  searched_more os i l =
       let o = get_or os i no_order in
-      f ∙ ap (tried_at r lo hi b h) (slice_get-get_or os i no_order l) ∙ ap (λ c. tried_beside r lo hi b c o.price) e
-      ∙ sym (fold_more (λ c x. tried_beside r lo hi b c x.price) (candidate r b r) os i no_order l)
+      fold_more (λ c x. tried_beside r lo hi b c x.price) (candidate r b r) os i no_order l
+      ∙ sym (ap (tried_at r lo hi b (searched r lo hi b (take i os))) (slice_get-get_or os i no_order l))
 
-  pub searched_all : lo ≤ r → r ≤ hi → (os : List Order) → Covers os b → (i : ℕ) (h : Candidate) → length os ≤ i
-      → h ≡ searched r lo hi b (take i os) → h ≡ best_price r b lo (hi - lo)
-  searched_all l k os covers i h end e = e ∙ ap (searched r lo hi b) (take_all i os end) ∙ found l k os covers
+  -- the end of it
+  pub searched_all : (os : List Order) (i : ℕ) → length os ≤ i → lo ≤ r → r ≤ hi → Covers os b
+      → searched r lo hi b (take i os) ≡ best_price r b lo (hi - lo)
+  searched_all os i end l k covers = ap (searched r lo hi b) (take_all i os end) ∙ found l k os covers

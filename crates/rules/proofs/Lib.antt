@@ -1,6 +1,5 @@
 pub mod Allots
 pub mod Choosing
-pub mod Depths
 pub mod Finds
 pub mod Steps
 pub mod Walk

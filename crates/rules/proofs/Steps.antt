@@ -2,16 +2,17 @@
 use Rattle.std.proofs.Common.{◌≡◌, ℕ, ◌-◌, ◌<◌, ◌≤◌, min, true, false, List, [], ◌∷◌, Some, None, Option, sym, ap, ◌∙◌, subst, inl, inr, arith}
 use Rattle.std.proofs.lemmas.Bool.{cases_order}
 use Rattle.std.proofs.lemmas.Bool.Decides.{nat_tests}
-use Rattle.rules.specs.Allotment.{Allotment, TradesMost, Greatest, FixingTradesTheMost}
+use Rattle.rules.specs.Allotment.{Allotment, TradesMost, Greatest, GreatestUnder, FixingTradesTheMost}
 use Rattle.rules.specs.Book.{Book}
 use Rattle.rules.specs.Curve.{depth, demand, supply, tradable, surplus, apart, candidate}
-use Rattle.rules.specs.Fixing.{best_price, priced, fixing, BestBySteps, DecidedBySteps, OnePrice}
+use Rattle.rules.specs.Fixing.{best_price, priced, fixing, fixing_under, BestBySteps, DecidedBySteps, OnePrice}
 use Rattle.rules.specs.Rank.{preferable}
 use Rattle.rules.specs.Side.{willing}
 use Rattle.rules.specs.declared.candidate.Candidate.{Candidate}
 use Rattle.rules.specs.declared.order.Direction.{Direction}
 use Rattle.rules.specs.declared.order.Direction.TheVariants.{Buy, Sell}
 use Rattle.rules.specs.declared.order.Order.{Order}
+use Rattle.rules.specs.declared.terms.Terms.{Terms}
 use Rattle.rules.proofs.Allots.{allotment_bound, allotment_most}
 use Rattle.rules.proofs.Finds.{Best, band_best}
 
@@ -145,5 +146,5 @@ decided_by_steps r lo hi b l k p = (decided r lo hi b l k p, deciding r lo hi b 
 pub fixing_trades_the_most : FixingTradesTheMost
 fixing_trades_the_most r lo hi b l k = greatest r lo hi b l k
 
-pub greatest_of : (r lo hi : ℕ) (b : Book) → lo ≤ r → r ≤ hi → (found : Option Candidate) → found ≡ fixing r lo hi b → Greatest r lo hi b found
-greatest_of r lo hi b l k found e = subst (Greatest r lo hi b) (sym e) (greatest r lo hi b l k)
+pub greatest_under : (t : Terms) (b : Book) (found : Option Candidate) → found ≡ fixing_under t b → GreatestUnder t b found
+greatest_under t b found e = subst (GreatestUnder t b) (sym e) (greatest t.reference t.lo t.hi b t.low t.high)

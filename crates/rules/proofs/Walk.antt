@@ -1,9 +1,10 @@
 -- From any price toward the reference, the curve stays level up to the reference or to a price beside an order's.
-use Rattle.std.proofs.Common.{◌≡◌, ℕ, zero, suc, ◌+◌, ◌-◌, ◌<◌, ◌≤◌, ◌⊎◌, List, [], ◌∷◌, sym, refl, ap, ◌∙◌, subst, ap₂, inl, inr, arith}
-use Rattle.std.specs.List.{AllByRecursion}
+use Rattle.std.proofs.Common.{◌≡◌, ℕ, zero, suc, ◌+◌, ◌-◌, ◌<◌, ◌≤◌, ◌⊎◌, List, [], ◌∷◌, sym, refl, ap, ◌∙◌, subst, ap₂, inl, inr, All, Contains, arith}
+use Rattle.std.specs.List.{Any}
+use Rattle.std.proofs.lemmas.List.Elements.{All-head, All-tail}
 use Rattle.std.proofs.lemmas.Bool.{cases_eq, cases_lt}
 use Rattle.std.proofs.lemmas.Bool.Decides.{nat_tests}
-use Rattle.rules.specs.Book.{Book, side, Member}
+use Rattle.rules.specs.Book.{Book, side}
 use Rattle.rules.specs.Curve.{offered, depth, apart, Covers}
 use Rattle.rules.specs.declared.order.Direction.{Direction}
 use Rattle.rules.specs.declared.order.Direction.TheVariants.{Buy, Sell}
@@ -15,13 +16,10 @@ Touches q p = (p ≡ q) ⊎ ((p ≡ q + 1) ⊎ (p + 1 ≡ q))
 
 -- p is an order's price or its neighbour
 abbrev pub Beside : List Order → ℕ → Type 0
-Beside [] p = ⊥
-Beside (o ∷ os) p = Touches o.price p ⊎ Beside os p
+Beside os p = Any (λ o. Touches o.price p) os
 
-beside : (os : List Order) (o : Order) (p : ℕ) → Member o os → Touches o.price p → Beside os p
-beside [] o p m t = absurd m
-beside (x ∷ os) o p (inl e) t = inl (subst (λ (y : Order). Touches y.price p) e t)
-beside (x ∷ os) o p (inr m) t = inr (beside os o p m t)
+beside : (os : List Order) (o : Order) (p : ℕ) → Contains os o → Touches o.price p → Beside os p
+beside os o p m t = (m.0, o, m.1, m.2, t)
 
 offered_flat : (d : Direction) (o : Order) (p : ℕ) → (o.price ≡ p → ⊥) → (o.price ≡ p + 1 → ⊥) → offered d p o ≡ offered d (p + 1) o
 offered_flat Buy o p h k = grind (arith, nat_tests)
@@ -42,14 +40,17 @@ module _ (r : ℕ) (os : List Order) (b : Book) (covers : Covers os b) where
   abbrev Flat : ℕ → Type 0
   Flat p = (d : Direction) → depth d p (side d b) ≡ depth d (p + 1) (side d b)
 
-  flat_side : (d : Direction) (xs : List Order) (p : ℕ) → AllByRecursion (λ o. Member o os) xs → Both p ⊎ (depth d p xs ≡ depth d (p + 1) xs)
+  flat_side : (d : Direction) (xs : List Order) (p : ℕ) → All (Contains os) xs → Both p ⊎ (depth d p xs ≡ depth d (p + 1) xs)
   flat_side d [] p m = inr refl
-  flat_side d (o ∷ xs) p m = go (cases_eq o.price p) (cases_eq o.price (p + 1)) (flat_side d xs p m.1)
+  flat_side d (o ∷ xs) p m = go (cases_eq o.price p) (cases_eq o.price (p + 1)) (flat_side d xs p (All-tail (Contains os) o xs m))
     where
+      here : Contains os o
+      here = All-head (Contains os) o xs m
+
       go : (o.price ≡ p) ⊎ (o.price ≡ p → ⊥) → (o.price ≡ p + 1) ⊎ (o.price ≡ p + 1 → ⊥) → Both p ⊎ (depth d p xs ≡ depth d (p + 1) xs)
           → Both p ⊎ (depth d p (o ∷ xs) ≡ depth d (p + 1) (o ∷ xs))
-      go (inl e) k f = inl (beside os o p m.0 (inl (omega arith)), beside os o (p + 1) m.0 (inr (inl (omega arith))))
-      go (inr h) (inl e) f = inl (beside os o p m.0 (inr (inr (omega arith))), beside os o (p + 1) m.0 (inl (omega arith)))
+      go (inl e) k f = inl (beside os o p here (inl (omega arith)), beside os o (p + 1) here (inr (inl (omega arith))))
+      go (inr h) (inl e) f = inl (beside os o p here (inr (inr (omega arith))), beside os o (p + 1) here (inl (omega arith)))
       go (inr h) (inr k) (inl f) = inl f
       go (inr h) (inr k) (inr f) = inr (ap₂ ◌+◌ (offered_flat d o p h k) f)
 
@@ -94,20 +95,21 @@ module _ (r : ℕ) (os : List Order) (b : Book) (covers : Covers os b) where
             ];
           }
 
+  -- what is reached from the next price is reached from p
+  onward : (p : ℕ) (n : Next p) → Reached r os b n.to → Reached r os b p
+  onward p n g = elim n.stop [
+    | inl h ↦ record { at = p; tried = inr h; on_the_way = omega arith; level = λ d. refl }
+    | inr f ↦ record {
+      at = g.at;
+      tried = g.tried;
+      on_the_way = omega (arith, g.on_the_way, n.nearer);
+      level = λ d. g.level d ∙ f d;
+    }
+  ]
+
   walk : (k p : ℕ) → apart p r ≡ k → Reached r os b p
   walk zero p e = record { at = p; tried = inl (omega arith); on_the_way = omega arith; level = λ d. refl }
-  walk (suc k) p e =
-      let n = next p (omega arith) in
-      let g = walk k n.to (omega (arith, n.step)) in
-      elim n.stop [
-        | inl h ↦ record { at = p; tried = inr h; on_the_way = omega arith; level = λ d. refl }
-        | inr f ↦ record {
-          at = g.at;
-          tried = g.tried;
-          on_the_way = omega (arith, g.on_the_way, n.nearer);
-          level = λ d. g.level d ∙ f d;
-        }
-      ]
+  walk (suc k) p e = let n = next p (omega arith) in onward p n (walk k n.to (omega (arith, n.step)))
 
   pub reach : (p : ℕ) → Reached r os b p
   reach p = walk (apart p r) p refl

@@ -8,6 +8,7 @@ use Rattle.rules.specs.declared.candidate.Candidate.{Candidate}
 use Rattle.rules.specs.declared.order.Direction.{Direction}
 use Rattle.rules.specs.declared.order.Direction.TheVariants.{Buy, Sell}
 use Rattle.rules.specs.declared.order.Order.{Order}
+use Rattle.rules.specs.declared.terms.Terms.{Terms}
 
 abbrev pub total : List ℕ → ℕ
 total [] = 0
@@ -48,6 +49,10 @@ pub record Greatest (r lo hi : ℕ) (b : Book) (found : Option Candidate) : Type
   pub some : (c : Candidate) → found ≡ Some c → TradesMost r lo hi b c
   pub nothing : found ≡ None → Idle lo hi b
   pub none : Idle lo hi b → found ≡ None
+
+-- what a fixing under the terms of a day found, if anything, trades the most
+abbrev pub GreatestUnder : Terms → Book → Option Candidate → Type 0
+GreatestUnder t b found = Greatest t.reference t.lo t.hi b found
 
 -- so for every book and every band around a reference price
 abbrev pub FixingTradesTheMost : Type 0

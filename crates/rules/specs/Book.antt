@@ -1,5 +1,5 @@
 -- Orders, and the orders of both sides.
-use Rattle.std.specs.Prelude.{◌≡◌, ℕ, false, ◌⊎◌, List, [], ◌∷◌, filter}
+use Rattle.std.specs.Prelude.{ℕ, false, List, filter}
 use Rattle.rules.specs.Side.{same}
 use Rattle.rules.specs.declared.order.Direction.{Direction}
 use Rattle.rules.specs.declared.order.Direction.TheVariants.{Buy, Sell}
@@ -28,8 +28,3 @@ of_side d os = filter (λ o. same o.direction d) os
 
 abbrev pub split : List Order → Book
 split os = record { buys = of_side Buy os; sells = of_side Sell os }
-
--- x is an element of the list
-abbrev pub Member : {X : Type 0} → X → List X → Type 0
-Member x [] = ⊥
-Member x (y ∷ ys) = (x ≡ y) ⊎ Member x ys

@@ -1,7 +1,6 @@
 -- Demand and supply at a price, what can trade there, and the surplus.
-use Rattle.std.specs.Prelude.{ℕ, ◌+◌, ◌-◌, min, cond, List, [], ◌∷◌}
-use Rattle.std.specs.List.{AllByRecursion}
-use Rattle.rules.specs.Book.{Book, side, Member}
+use Rattle.std.specs.Prelude.{ℕ, ◌+◌, ◌-◌, min, cond, List, [], ◌∷◌, All, Contains}
+use Rattle.rules.specs.Book.{Book, side}
 use Rattle.rules.specs.Side.{same, willing}
 use Rattle.rules.specs.declared.candidate.Candidate.{Candidate}
 use Rattle.rules.specs.declared.order.Direction.{Direction}
@@ -45,4 +44,4 @@ candidate r b p = record { price = p; volume = tradable b p; surplus = surplus b
 
 -- every order of the book is one of these
 abbrev pub Covers : List Order → Book → Type 0
-Covers os b = (d : Direction) → AllByRecursion (λ o. Member o os) (side d b)
+Covers os b = (d : Direction) → All (Contains os) (side d b)

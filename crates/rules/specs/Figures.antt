@@ -24,7 +24,6 @@ pub data Figure : Type 0 where
 abbrev pub untraded : ℕ → Direction → ℕ → Bool → DayRecord
 untraded r d price throughout =
     record {
-      closed = true;
       last_trade = None;
       buy_at_high = throughout && (same d Buy && price == highest r);
       sell_at_low = throughout && (same d Sell && price == lowest r);
@@ -33,7 +32,7 @@ untraded r d price throughout =
 abbrev pub Holds : Figure → Type 0
 Holds (band_is r lo hi) = band r ≡ (lo, hi)
 Holds (fixing_is r os found) = option_map (λ c. (c.price, c.volume)) (fixing r (lowest r) (highest r) (split os)) ≡ found
-Holds (next_is r d price throughout next) = next_reference r (lowest r) (highest r) (untraded r d price throughout) ≡ next
+Holds (next_is r d price throughout next) = next_reference r (lowest r) (highest r) (Some (untraded r d price throughout)) ≡ next
 
 abbrev pub figures : List Figure
 figures =

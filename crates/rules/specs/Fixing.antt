@@ -5,6 +5,7 @@ use Rattle.rules.specs.Curve.{tradable, surplus, apart, candidate}
 use Rattle.rules.specs.Picking.{better_of}
 use Rattle.rules.specs.Rank.{preferable}
 use Rattle.rules.specs.declared.candidate.Candidate.{Candidate}
+use Rattle.rules.specs.declared.terms.Terms.{Terms}
 
 -- the best of the prices lo to lo + n, where r is the reference price
 abbrev pub best_price : ℕ → Book → ℕ → ℕ → Candidate
@@ -18,6 +19,13 @@ priced c = cond (c.volume == 0) None (Some c)
 -- the best of all prices of the band lo to hi, or none where nothing can trade at it
 abbrev pub fixing : ℕ → ℕ → ℕ → Book → Option Candidate
 fixing r lo hi b = priced (best_price r b lo (hi - lo))
+
+-- the best price of the band, and the fixing, under the terms of a day
+abbrev pub best_price_under : Terms → Book → Candidate
+best_price_under t b = best_price t.reference b t.lo (t.hi - t.lo)
+
+abbrev pub fixing_under : Terms → Book → Option Candidate
+fixing_under t b = fixing t.reference t.lo t.hi b
 
 -- the three steps, as what is said of every other price q of the band
 pub record BestBySteps (r lo hi : ℕ) (b : Book) (p : ℕ) : Type 0 where

@@ -6,6 +6,7 @@ use Rattle.rules.specs.Picking.{better_of}
 use Rattle.rules.specs.Rank.{preferable}
 use Rattle.rules.specs.declared.candidate.Candidate.{Candidate}
 use Rattle.rules.specs.declared.order.Order.{Order}
+use Rattle.rules.specs.declared.terms.Terms.{Terms}
 
 -- the price of the band that is nearest to p
 abbrev pub clamped : ℕ → ℕ → ℕ → ℕ
@@ -24,6 +25,13 @@ tried_beside r lo hi b held q =
 abbrev pub tried_at : ℕ → ℕ → ℕ → Book → Candidate → Option Order → Candidate
 tried_at r lo hi b held None = held
 tried_at r lo hi b held (Some o) = tried_beside r lo hi b held o.price
+
+-- both under the terms of a day
+abbrev pub tried_beside_under : Terms → Book → Candidate → ℕ → Candidate
+tried_beside_under t b held q = tried_beside t.reference t.lo t.hi b held q
+
+abbrev pub tried_at_under : Terms → Book → Candidate → Option Order → Candidate
+tried_at_under t b held o = tried_at t.reference t.lo t.hi b held o
 
 -- the reference price, and then the price of each order
 abbrev pub searched : ℕ → ℕ → ℕ → Book → List Order → Candidate

@@ -1,5 +1,5 @@
 -- A side by its direction: which of two prices is better, and at which prices an order is willing to trade.
-use Rattle.std.specs.Prelude.{ℕ, Bool, true, false, nat_le, nat_lt}
+use Rattle.std.specs.Prelude.{ℕ, Bool, true, false, nat_le, nat_lt, List, [], ◌∷◌, Some, Option}
 use Rattle.rules.specs.declared.order.Direction.{Direction}
 use Rattle.rules.specs.declared.order.Direction.TheVariants.{Buy, Sell}
 
@@ -23,3 +23,8 @@ better Sell p q = nat_lt p q
 abbrev pub willing : Direction → ℕ → ℕ → Bool
 willing Buy price p = nat_le p price
 willing Sell price p = nat_le price p
+
+-- the name of a side, as the bytes of its text
+abbrev pub called : Direction → Option (List ℕ)
+called Buy = Some (98 ∷ 117 ∷ 121 ∷ [])
+called Sell = Some (115 ∷ 101 ∷ 108 ∷ 108 ∷ [])

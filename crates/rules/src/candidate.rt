@@ -3,6 +3,7 @@ ghost use Rattle.rules.specs.Rank.{preferable};
 ghost use Rattle.rules.specs.Keys.{candidates};
 
 use crate::rank::Ranked;
+use std::cmp::Reverse;
 
 #[derive(Clone, Copy)]
 pub struct Candidate {
@@ -25,14 +26,7 @@ impl Ranked for Candidate {
     ghost level = { λ a b h k. (candidates.same a b h k).1.1.1.0 };
 
     fn before(&self, other: &Candidate) -> bool {
-        if self.volume != other.volume {
-            self.volume > other.volume
-        } else if self.surplus != other.surplus {
-            self.surplus < other.surplus
-        } else if self.distance != other.distance {
-            self.distance < other.distance
-        } else {
-            self.price < other.price
-        }
+        let keys = |c: &Candidate| (Reverse(c.volume), c.surplus, c.distance, c.price);
+        keys(self) < keys(other)
     }
 }

@@ -16,8 +16,6 @@ pub trait Curve {
     // its orders, of both sides and in any sequence
     ghost orders: { Self → List Order };
 
-    ghost covers: { (c : Self) → Covers (orders c) (book c) };
-
     // The volume of the side's orders that are willing at p.
     fn depth(&self, d: Direction, p: u32) -> u128
         ensures { result ≡ depth_at d p (side d (book self.now)) };
@@ -28,13 +26,16 @@ pub trait Curve {
 
     fn at(&self, i: u128) -> Option<Order>
         ensures { result ≡ slice_get (orders self.now) i };
+
+    // every order of the book is one of these
+    ghost covers: { (c : Self) → Covers (orders c) (book c) };
 }
 
 // What an order offers at p, if it is of the side S.
 fn share<S: Quotes>(o: &Order, p: u32) -> u32
     ensures { result ≡ share_at S.Quotes.way p o.now }
 {
-    if o.direction.same(S::direction()) && S::willing(o.price, p) {
+    if o.direction == S::direction() && S::willing(o.price, p) {
         o.volume
     } else {
         0
@@ -45,6 +46,7 @@ fn share<S: Quotes>(o: &Order, p: u32) -> u32
 pub fn depth_of<S: Quotes>(orders: &[Order], p: u32) -> u128
     ensures { result ≡ depth_at S.Quotes.way p (of_side S.Quotes.way orders.now) }
 {
+    // a loop over the elements that adds, by a choice of form (docs/DECISIONS.md)
     let mut sum: u128 = 0;
     for o in orders {
         sum += u128::from(share::<S>(o, p));
@@ -60,6 +62,7 @@ impl<'a> Curve for &'a [Order] {
     ghost covers = { λ s. split_covers s.now };
 
     fn depth(&self, d: Direction, p: u32) -> u128 {
+        // the one place where a slice's side goes from a value to a type
         match d {
             Direction::Buy => depth_of::<Buys>(*self, p),
             Direction::Sell => depth_of::<Sells>(*self, p),
@@ -67,14 +70,11 @@ impl<'a> Curve for &'a [Order] {
     }
 
     fn count(&self) -> u128 {
+        // no From leads from usize to u128
         self.len() as u128
     }
 
     fn at(&self, i: u128) -> Option<Order> {
-        if i < self.count() {
-            Some(self[i as usize])
-        } else {
-            None
-        }
+        self.get(usize::try_from(i).ok()?).copied()
     }
 }

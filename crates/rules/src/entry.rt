@@ -17,7 +17,7 @@ pub fn check_member(member: u32) -> Result<(), Refusal>
 pub fn check_volume(terms: &Terms, volume: u32) -> Result<(), Refusal>
     ensures { answer result ≡ volume_row terms.now.block volume }
 {
-    if volume == 0 || volume > 100_000_000 || volume % terms.block() != 0 {
+    if !(1..=100_000_000).contains(&volume) || volume % terms.block() != 0 {
         return Err(Refusal::Volume);
     }
     Ok(())
@@ -27,7 +27,7 @@ pub fn check_price(terms: &Terms, price: u32) -> Result<(), Refusal>
     ensures { answer result ≡ price_row terms.now.lo terms.now.hi price }
 {
     let (lo, hi) = terms.band();
-    if price < lo || hi < price {
+    if !(lo..=hi).contains(&price) {
         return Err(Refusal::Price);
     }
     Ok(())

@@ -1,11 +1,11 @@
 // The fixing price of a band of prices.
-ghost use Rattle.std.specs.Prelude.{◌≡◌, ◌-◌};
+ghost use Rattle.std.specs.Prelude.{◌≡◌};
 ghost use Rattle.std.specs.List.{slice_get};
-ghost use Rattle.rules.specs.Allotment.{Greatest};
+ghost use Rattle.rules.specs.Allotment.{GreatestUnder};
 ghost use Rattle.rules.specs.Book.{split};
 ghost use Rattle.rules.specs.Curve.{candidate as candidate_at};
-ghost use Rattle.rules.specs.Fixing.{fixing as fixing_of, priced as priced_at, best_price as best_price_of};
-ghost use Rattle.rules.specs.Search.{tried_beside, tried_at};
+ghost use Rattle.rules.specs.Fixing.{fixing_under, best_price_under};
+ghost use Rattle.rules.specs.Search.{tried_beside_under, tried_at_under};
 
 use crate::candidate::Candidate;
 use crate::curve::Curve;
@@ -27,60 +27,71 @@ pub fn candidate<C: Curve>(curve: &C, r: u32, p: u32) -> Candidate
     }
 }
 
-// The best of what is held, the price q and the prices below and above it, each moved into the band.
-fn try_beside<C: Curve>(terms: &Terms, curve: &C, held: Candidate, q: u32) -> Candidate
-    ensures { let t = terms.now in result ≡ tried_beside t.reference t.lo t.hi (C.Curve.book curve.now) held q }
-{
-    let r = terms.reference();
-    let (lo, hi) = terms.band();
-    let q = q.clamp(lo, hi);
-    let held = pick(held, candidate(curve, r, q));
-    let held = pick(held, candidate(curve, r, q.saturating_sub(1).clamp(lo, hi)));
-    pick(held, candidate(curve, r, (q + 1).clamp(lo, hi)))
+// The search for the best price of a curve's orders, under the terms of a day.
+#[derive_where(Clone, Copy)]
+struct Search<'a, C> {
+    terms: &'a Terms,
+    curve: &'a C,
 }
 
-// The same at the price of the order i, if there is one.
-fn try_order<C: Curve>(terms: &Terms, curve: &C, held: Candidate, i: u128) -> Candidate
-    ensures { let t = terms.now in result ≡ tried_at t.reference t.lo t.hi (C.Curve.book curve.now) held (slice_get (C.Curve.orders curve.now) i) }
-{
-    match curve.at(i) {
-        Some(o) => try_beside(terms, curve, held, o.price),
-        None => held,
+impl<C: Curve> Search<'_, C> {
+    fn at_price(&self, p: u32) -> Candidate
+        ensures { result ≡ candidate_at self.now.terms.now.reference (C.Curve.book self.now.curve.now) p }
+    {
+        candidate(self.curve, self.terms.reference(), p)
     }
-}
 
-// The best price of the band. The curve changes only beside an order's price, so the reference price and the prices at
-// and beside the orders' are enough to try, however wide the band.
-fn best_price<C: Curve>(terms: &Terms, curve: &C) -> Candidate
-    ensures { let t = terms.now in result ≡ best_price_of t.reference (C.Curve.book curve.now) t.lo (t.hi - t.lo) }
-{
-    let r = terms.reference();
-    let mut held = candidate(curve, r, r);
-    for i in 0..curve.count() {
-        held = try_order(terms, curve, held, i);
+    // The best of what is held, the price q and the prices below and above it, each moved into the band.
+    fn try_beside(&self, held: Candidate, q: u32) -> Candidate
+        ensures { result ≡ tried_beside_under self.now.terms.now (C.Curve.book self.now.curve.now) held q }
+    {
+        let (lo, hi) = self.terms.band();
+        let q = q.clamp(lo, hi);
+        let held = pick(held, self.at_price(q));
+        let held = pick(held, self.at_price(q.saturating_sub(1).clamp(lo, hi)));
+        pick(held, self.at_price((q + 1).clamp(lo, hi)))
     }
-    held
-}
 
-// A candidate at which something trades.
-fn priced(held: Candidate) -> Option<Candidate>
-    ensures { result ≡ priced_at held }
-{
-    if held.volume == 0 { None } else { Some(held) }
+    // The same at the price of the order i, if there is one.
+    fn try_order(&self, held: Candidate, i: u128) -> Candidate
+        ensures { result ≡ tried_at_under self.now.terms.now (C.Curve.book self.now.curve.now) held (slice_get (C.Curve.orders self.now.curve.now) i) }
+    {
+        match self.curve.at(i) {
+            Some(o) => self.try_beside(held, o.price),
+            None => held,
+        }
+    }
+
+    // The best price of the band. The curve changes only beside an order's price, so the reference price and the prices
+    // at and beside the orders' are enough to try, however wide the band.
+    #[tactic(auto, using(crate::proofs::Finds::searched_more, crate::proofs::Finds::searched_all))]
+    fn best_price(&self) -> Candidate
+        ensures { result ≡ best_price_under self.now.terms.now (C.Curve.book self.now.curve.now) }
+    {
+        let mut held = self.at_price(self.terms.reference());
+        // by index, since a curve gives its orders one by one, as a table gives them by rank; a fold over the indexes
+        // would say the same in as many lines
+        for i in 0..self.curve.count() {
+            held = self.try_order(held, i);
+        }
+        held
+    }
 }
 
 // The fixing price of a curve's orders, none where nothing can trade at any price of the band.
+#[tactic(auto, using(crate::proofs::Steps::greatest_under))]
 pub fn fixing_on<C: Curve>(terms: &Terms, curve: &C) -> Option<Candidate>
-    ensures value { let t = terms.now in result ≡ fixing_of t.reference t.lo t.hi (C.Curve.book curve.now) }
-    ensures greatest { let t = terms.now in Greatest t.reference t.lo t.hi (C.Curve.book curve.now) result }
+    ensures value { result ≡ fixing_under terms.now (C.Curve.book curve.now) }
+    ensures greatest { GreatestUnder terms.now (C.Curve.book curve.now) result }
 {
-    priced(best_price(terms, curve))
+    let best = Search { terms, curve }.best_price();
+    (best.volume != 0).then_some(best)
 }
 
 // The fixing price of the orders of a slice.
 pub fn fixing(terms: &Terms, orders: &[Order]) -> Option<Candidate>
-    ensures value { let t = terms.now in result ≡ fixing_of t.reference t.lo t.hi (split orders.now) }
-    ensures greatest { let t = terms.now in Greatest t.reference t.lo t.hi (split orders.now) result }
+    ensures value { result ≡ fixing_under terms.now (split orders.now) }
+    ensures greatest { GreatestUnder terms.now (split orders.now) result }
 {
     fixing_on(terms, &orders)
 }

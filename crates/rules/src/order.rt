@@ -1,24 +1,28 @@
 // An order, and its side as a value.
 ghost use Rattle.std.specs.Prelude.{◌≡◌};
 ghost use Rattle.rules.specs.Book.{limit};
-ghost use Rattle.rules.specs.Side.{opposite, same};
+ghost use Rattle.rules.specs.Side.{opposite, called};
 
-#[derive(Clone, Copy)]
+use std::fmt;
+
+#[derive(Clone, Copy, Debug, PartialEq, Eq)]
 pub enum Direction {
     Buy,
     Sell,
 }
 
-impl Direction {
-    pub fn same(self, other: Direction) -> bool
-        ensures { result ≡ same self other }
-    {
-        match (self, other) {
-            (Direction::Buy, Direction::Buy) | (Direction::Sell, Direction::Sell) => true,
-            _ => false,
-        }
-    }
+impl fmt::Display for Direction {
+    ghost output = { called };
 
+    fn fmt<W: fmt::Write>(&self, f: &mut fmt::Formatter<W>) -> fmt::Result {
+        f.write_str(match self {
+            Direction::Buy => "buy",
+            Direction::Sell => "sell",
+        })
+    }
+}
+
+impl Direction {
     // The direction that it trades against.
     pub fn opposite(self) -> Direction
         ensures { result ≡ opposite self }
@@ -30,7 +34,8 @@ impl Direction {
     }
 }
 
-// A market order carries its mark and, as its price, the limit of the band that it is willing up to.
+// A market order carries its mark and, as its price, the limit of the band that it is willing up to. Mark and price are
+// two fields, since both always count: it ranks and trades by that price.
 #[derive(Clone, Copy)]
 pub struct Order {
     pub number: u32,

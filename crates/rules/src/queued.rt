@@ -40,10 +40,8 @@ impl<S: Quotes> Ranked for Queued<S> {
     fn before(&self, other: &Queued<S>) -> bool {
         if self.order.price != other.order.price {
             S::better(self.order.price, other.order.price)
-        } else if self.order.arrival != other.order.arrival {
-            self.order.arrival < other.order.arrival
         } else {
-            self.order.number < other.order.number
+            (self.order.arrival, self.order.number) < (other.order.arrival, other.order.number)
         }
     }
 }

@@ -1,7 +1,8 @@
 // Rank: a total order in which two values are level only where they have one identity.
 ghost use Rattle.std.specs.Prelude.{◌≡◌, ℕ, Bool, true, false};
-ghost use Rattle.rules.specs.Picking.{better_of, held_or, picked, Chosen};
+ghost use Rattle.rules.specs.Picking.{better_of, picked, Chosen};
 
+// No Ord: what is level in rank need not be equal, as two orders with one number.
 pub trait Ranked {
     ghost identity: { Self → ℕ };
 
@@ -26,23 +27,11 @@ pub fn pick<R: Ranked + Copy>(held: R, next: R) -> R
     if next.before(&held) { next } else { held }
 }
 
-fn pick_or<R: Ranked + Copy>(held: Option<R>, next: R) -> Option<R>
-    ensures { result ≡ held_or R.precedes held next }
-{
-    match held {
-        Some(best) => Some(pick(best, next)),
-        None => Some(next),
-    }
-}
-
 // The best of the items, and of those that are level the first in the slice; nothing from an empty slice.
+#[tactic(auto, using(crate::proofs::Choosing::chosen_by_laws))]
 pub fn best<R: Ranked + Copy>(items: &[R]) -> Option<R>
     ensures value { result ≡ picked R.precedes items.now }
     ensures first { Chosen R.precedes items.now result }
 {
-    let mut held = None;
-    for x in items {
-        held = pick_or(held, *x);
-    }
-    held
+    items.iter().copied().reduce(pick)
 }

@@ -2,41 +2,27 @@
 ghost use Rattle.std.specs.Prelude.{◌≡◌};
 ghost use Rattle.rules.specs.Refusal.{number};
 
-#[derive(Clone, Copy)]
+#[derive(Clone, Copy, Debug, PartialEq, Eq)]
 pub enum Refusal {
-    Reference,
-    Block,
-    Closed,
-    Member,
-    Volume,
-    Price,
-    NotHeld,
-    NotOwner,
-    MarketOrder,
-    ArrivalsGiven,
-    SideFull,
-    RunTooShort,
-    BrokenForm,
+    Reference = 1,
+    Block = 2,
+    Closed = 3,
+    Member = 4,
+    Volume = 5,
+    Price = 6,
+    NotHeld = 7,
+    NotOwner = 8,
+    MarketOrder = 9,
+    ArrivalsGiven = 10,
+    SideFull = 11,
+    RunTooShort = 12,
+    BrokenForm = 13,
 }
 
 impl Refusal {
     pub fn number(self) -> u32
         ensures { result ≡ number self }
     {
-        match self {
-            Refusal::Reference => 1,
-            Refusal::Block => 2,
-            Refusal::Closed => 3,
-            Refusal::Member => 4,
-            Refusal::Volume => 5,
-            Refusal::Price => 6,
-            Refusal::NotHeld => 7,
-            Refusal::NotOwner => 8,
-            Refusal::MarketOrder => 9,
-            Refusal::ArrivalsGiven => 10,
-            Refusal::SideFull => 11,
-            Refusal::RunTooShort => 12,
-            Refusal::BrokenForm => 13,
-        }
+        self as u32
     }
 }

@@ -41,6 +41,7 @@ pub trait Side: Quotes {
     ghost back: { opposite_of Self.Opposite.Quotes.way ≡ Self.Quotes.way };
 }
 
+// The two sides differ in direction, comparison and opposite: each impl says those, and the check shows its laws.
 #[derive(Clone, Copy)]
 pub struct Buys;
 

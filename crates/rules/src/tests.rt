@@ -22,19 +22,8 @@ fn first_in_rank(rt: HostRuntime) -> Result<(), Fail> {
         order(3, 1010, 7),
         order(2, 1010, 8),
     ];
-    let [a, b, c, d] = orders;
-    let buys: [Queued<Buys>; 4] = [
-        Queued::new(a),
-        Queued::new(b),
-        Queued::new(c),
-        Queued::new(d),
-    ];
-    let sells: [Queued<Sells>; 4] = [
-        Queued::new(a),
-        Queued::new(b),
-        Queued::new(c),
-        Queued::new(d),
-    ];
+    let buys = orders.map(Queued::<Buys>::new);
+    let sells = orders.map(Queued::<Sells>::new);
     let none: [Queued<Buys>; 0] = [];
     assert_eq!(rt; best(&buys).ok_or("no buy")?.order.number, 3);
     assert_eq!(rt; best(&sells).ok_or("no sell")?.order.number, 1);
@@ -45,21 +34,17 @@ fn first_in_rank(rt: HostRuntime) -> Result<(), Fail> {
 // A next reference above 1,000,000 gives no terms, and the day comes back with it.
 #[test]
 fn day_handed_back(rt: HostRuntime) -> Result<(), Fail> {
-    let Ok(terms) = Terms::new(1_000_000, 10) else {
-        return Err(Fail::new("terms"));
-    };
+    let terms = Terms::new(1_000_000, 10).ok().ok_or("terms")?;
     let left = DayRecord {
-        closed: true,
         last_trade: None,
         buy_at_high: true,
         sell_at_low: false,
     };
-    match EndedDay::new(&terms, left).next_terms(10) {
-        Ok(_) => Err(Fail::new("terms above the greatest reference")),
-        Err(back) => {
-            assert_eq!(rt; back.refusal.number(), 1);
-            assert_eq!(rt; back.day.next_reference(), 1_300_000);
-            Ok(())
-        }
-    }
+    let back = EndedDay::new(&terms, Some(left))
+        .next_terms(10)
+        .err()
+        .ok_or("terms above the greatest reference")?;
+    assert_eq!(rt; back.refusal.number(), 1);
+    assert_eq!(rt; back.day.next_reference(), 1_300_000);
+    Ok(())
 }

@@ -5,11 +5,13 @@ ghost use Rattle.rules.specs.Fixing.{DecidedBySteps, OnePrice};
 
 // No allotment at any price of the band trades more than the fixing, and one trades just that; there is no price
 // exactly where every allotment trades nothing.
+#[tactic(auto, using(crate::proofs::Steps::fixing_trades_the_most))]
 pub fn fixing_trades_the_most()
     ensures { FixingTradesTheMost }
 {}
 
 // The fixing price is the one of greatest volume, among those of smallest surplus, among those nearest to the reference.
+#[tactic(auto, using(crate::proofs::Steps::decided_by_steps))]
 pub fn three_steps_decide_the_fixing()
     ensures { DecidedBySteps }
 {}

@@ -17,10 +17,10 @@ impl Terms {
     pub fn new(reference: u32, block: u32) -> Result<Terms, Refusal>
         ensures { answer result ≡ terms_of reference block }
     {
-        if reference == 0 || reference > 1_000_000 {
+        if !(1..=1_000_000).contains(&reference) {
             return Err(Refusal::Reference);
         }
-        if block == 0 || block > 10_000 {
+        if !(1..=10_000).contains(&block) {
             return Err(Refusal::Block);
         }
         let (lo, hi) = band_around(reference);

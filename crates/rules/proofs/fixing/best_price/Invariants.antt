@@ -1,8 +1,0 @@
-use Rattle.std.proofs.Common.{◌≡◌, take}
-use Rattle.rules.specs.Search.{searched}
-use Rattle.rules.proofs.fixing.best_price.Given as goal
-
-abbrev pub invariant-loop-i : goal.invariant-loop-i
-invariant-loop-i g l =
-    let t = l.terms in
-    l.held ≡ searched t.reference t.lo t.hi (g.C.Curve.book l.curve) (take l.i (g.C.Curve.orders l.curve))
