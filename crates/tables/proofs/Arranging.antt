@@ -1,11 +1,10 @@
 -- Orders put in rank order: what is added, taken out or changed before is so after.
-use Rattle.std.proofs.Common.{◌≡◌, ℕ, zero, suc, ◌+◌, ◌<◌, Bool, true, false, cond, List, [], ◌∷◌, ◌++◌, length, get_or, Some, None, Option, sym, refl, ap, ◌∙◌, subst, one-add, arith}
-use Rattle.std.specs.List.{AllByRecursion, slice_get}
-use Rattle.std.proofs.ByRecursion.{All-get_or}
-use Rattle.std.proofs.lemmas.Bool.{and_parts, cond_both}
+use Rattle.std.proofs.Common.{◌≡◌, ℕ, zero, suc, ◌+◌, ◌==◌, Bool, true, false, cond, List, [], ◌∷◌, ◌++◌, length, Some, None, Option, sym, refl, ap, ◌∙◌, subst, one-add, arith}
+use Rattle.std.specs.List.{AllByRecursion, slice_get, list_all, find}
+use Rattle.std.proofs.lemmas.Bool.{and_parts, cond-true, cond_both, both_ways, eq-eqb}
 use Rattle.std.proofs.lemmas.Bool.Decides.{nat_tests}
 use Rattle.rules.specs.declared.order.Order.{Order}
-use Rattle.tables.specs.Listing.{numbered, counted, times, Distinct, ahead, find, insert, arranged, without, volume_at, set_volume, all, in_rank}
+use Rattle.tables.specs.Listing.{counted, numbered, times, Distinct, ahead, insert, arranged, without, volume_at, set_volume, in_rank}
 use Rattle.tables.proofs.Numbers.{counted-insert}
 use Rattle.tables.proofs.Ranking.{Ranking, all_behind, in_rank-insert, length-insert}
 
@@ -14,6 +13,17 @@ tail_distinct x xs d n = omega (arith, d n)
 
 pub head_new : (x : Order) (xs : List Order) → Distinct (x ∷ xs) → times x.number xs ≡ 0
 head_new x xs d = let h = d x.number in grind (arith, nat_tests)
+
+first_of : (lt : Order → Order → Bool) (o : Order) (xs : List Order) → list_all (lt o) xs ≡ true → insert lt o xs ≡ o ∷ xs
+first_of lt o [] a = refl
+first_of lt o (x ∷ xs) a = cond-true (lt o x) _ _ (and_parts (lt o x) (list_all (lt o) xs) a).0
+
+-- orders in rank order stay as they are
+pub arranged_same : (lt : Order → Order → Bool) (xs : List Order) → in_rank lt xs ≡ true → arranged lt xs ≡ xs
+arranged_same lt [] s = refl
+arranged_same lt (x ∷ xs) s =
+    let p = and_parts (list_all (lt x) xs) (in_rank lt xs) s in
+    ap (insert lt x) (arranged_same lt xs p.1) ∙ first_of lt x xs p.0
 
 module _ {lt : Order → Order → Bool} (r : Ranking lt) where
   pub counted-arranged : (test : Order → Bool) (xs : List Order) → counted test (arranged lt xs) ≡ counted test xs
@@ -54,14 +64,14 @@ module _ {lt : Order → Order → Bool} (r : Ranking lt) where
   arranged-set_volume n v [] = refl
   arranged-set_volume n v (x ∷ xs) = ap (insert lt (volume_at n v x)) (arranged-set_volume n v xs) ∙ insert-set_volume n v x (arranged lt xs)
 
-  insert_first : (n : ℕ) (o : Order) (ys : List Order) → all (lt o) ys ≡ true → insert lt o (without n ys) ≡ o ∷ without n ys
+  insert_first : (n : ℕ) (o : Order) (ys : List Order) → list_all (lt o) ys ≡ true → insert lt o (without n ys) ≡ o ∷ without n ys
   insert_first n o [] a = refl
   insert_first n o (y ∷ ys) a = let ih = insert_first n o ys in grind arith
 
   without_insert : (n : ℕ) (o : Order) (ys : List Order) → in_rank lt ys ≡ true → numbered n o ≡ false → without n (insert lt o ys) ≡ insert lt o (without n ys)
   without_insert n o [] s ne = grind arith
   without_insert n o (y ∷ ys) s ne =
-      let p = and_parts (all (lt y) ys) (in_rank lt ys) s in
+      let p = and_parts (list_all (lt y) ys) (in_rank lt ys) s in
       let ih = without_insert n o ys p.1 ne in
       let l : lt o y ≡ true → insert lt o (without n ys) ≡ o ∷ without n ys = λ h. insert_first n o ys (all_behind r o y ys h p.0) in
       grind arith
@@ -70,14 +80,14 @@ module _ {lt : Order → Order → Bool} (r : Ranking lt) where
   without_itself n o [] e = grind arith
   without_itself n o (y ∷ ys) e = let ih = without_itself n o ys e in grind arith
 
-  find-insert : (n : ℕ) (o : Order) (ys : List Order) → times o.number ys ≡ 0 → find n (insert lt o ys) ≡ find n (o ∷ ys)
+  find-insert : (n : ℕ) (o : Order) (ys : List Order) → times o.number ys ≡ 0 → find (numbered n) (insert lt o ys) ≡ find (numbered n) (o ∷ ys)
   find-insert n o [] e = refl
   find-insert n o (y ∷ ys) e =
       let rest : times o.number ys ≡ 0 = omega arith in
       let ih = find-insert n o ys rest in
       grind (arith, nat_tests)
 
-  pub find-arranged : (n : ℕ) (xs : List Order) → Distinct xs → find n (arranged lt xs) ≡ find n xs
+  pub find-arranged : (n : ℕ) (xs : List Order) → Distinct xs → find (numbered n) (arranged lt xs) ≡ find (numbered n) xs
   find-arranged n [] d = refl
   find-arranged n (x ∷ xs) d =
       find-insert n x (arranged lt xs) (counted-arranged (numbered x.number) xs ∙ head_new x xs d)
@@ -97,16 +107,16 @@ all_nth P [] i o a e = let z : ◌≡◌ {A = ℕ} 0 1 = cc in absurd (omega ari
 all_nth P (y ∷ ys) zero o a e = let h : y ≡ o = cc in subst P h a.0
 all_nth P (y ∷ ys) (suc i) o a e = all_nth P ys i o a.1 e
 
-each : (test : Order → Bool) (xs : List Order) → all test xs ≡ true → AllByRecursion (λ x. test x ≡ true) xs
+each : (test : Order → Bool) (xs : List Order) → list_all test xs ≡ true → AllByRecursion (λ x. test x ≡ true) xs
 each test [] a = tt
-each test (x ∷ xs) a = let p = and_parts (test x) (all test xs) a in (p.0, each test xs p.1)
+each test (x ∷ xs) a = let p = and_parts (test x) (list_all test xs) a in (p.0, each test xs p.1)
 
 -- the order at a rank is the one that so many are ahead of
 module _ {lt : Order → Order → Bool} (r : Ranking lt) where
   itself : (y : Order) → lt y y ≡ false
   itself y = let h = r.one_way y y in grind arith
 
-  ahead_first : (y : Order) (ys : List Order) → all (lt y) ys ≡ true → ahead lt y ys ≡ 0
+  ahead_first : (y : Order) (ys : List Order) → list_all (lt y) ys ≡ true → ahead lt y ys ≡ 0
   ahead_first y [] a = refl
   ahead_first y (z ∷ zs) a =
       let h = r.one_way y z in
@@ -117,16 +127,16 @@ module _ {lt : Order → Order → Bool} (r : Ranking lt) where
   abbrev StandsSo : List Order → Order → Type 0
   StandsSo ys x = slice_get ys (ahead lt x ys) ≡ Some x
 
-  each_behind : (y : Order) (ys zs : List Order) → all (lt y) zs ≡ true → AllByRecursion (StandsSo ys) zs → AllByRecursion (StandsSo (y ∷ ys)) zs
+  each_behind : (y : Order) (ys zs : List Order) → list_all (lt y) zs ≡ true → AllByRecursion (StandsSo ys) zs → AllByRecursion (StandsSo (y ∷ ys)) zs
   each_behind y ys [] a b = tt
   each_behind y ys (z ∷ zs) a b =
-      let p = and_parts (lt y z) (all (lt y) zs) a in
+      let p = and_parts (lt y z) (list_all (lt y) zs) a in
       (rw (p.0, one-add) b.0, each_behind y ys zs p.1 b.1)
 
   each_stands : (ys : List Order) → in_rank lt ys ≡ true → AllByRecursion (StandsSo ys) ys
   each_stands [] s = tt
   each_stands (y ∷ ys) s =
-      let p = and_parts (all (lt y) ys) (in_rank lt ys) s in
+      let p = and_parts (list_all (lt y) ys) (in_rank lt ys) s in
       let i = itself y in
       let l = ahead_first y ys p.0 in
       let e : ahead lt y (y ∷ ys) ≡ 0 = grind arith in
@@ -136,13 +146,13 @@ module _ {lt : Order → Order → Bool} (r : Ranking lt) where
   ahead_nth [] i o s e = let z : ◌≡◌ {A = ℕ} 0 1 = cc in absurd (omega arith)
   ahead_nth (y ∷ ys) zero o s e =
       let h : y ≡ o = cc in
-      let p = and_parts (all (lt y) ys) (in_rank lt ys) s in
+      let p = and_parts (list_all (lt y) ys) (in_rank lt ys) s in
       let i = itself y in
       let l = ahead_first y ys p.0 in
       let none : ahead lt y (y ∷ ys) ≡ 0 = grind arith in
       subst (λ z. ahead lt z (y ∷ ys) ≡ 0) h none
   ahead_nth (y ∷ ys) (suc i) o s e =
-      let p = and_parts (all (lt y) ys) (in_rank lt ys) s in
+      let p = and_parts (list_all (lt y) ys) (in_rank lt ys) s in
       let ih = ahead_nth ys i o p.1 e in
       let l = all_nth (λ z. lt y z ≡ true) ys i o (each (lt y) ys p.0) e in
       grind arith
@@ -167,17 +177,28 @@ module _ {lt : Order → Order → Bool} (r : Ranking lt) where
   each_arranged P [] a = tt
   each_arranged P (x ∷ xs) a = each_insert P x (arranged lt xs) a.0 (each_arranged P xs a.1)
 
-  module _ (xs : List Order) (d : Distinct xs) where
-    pub at_ahead : (i : ℕ) (e : Order) → i < length xs → slice_get (arranged lt xs) (ahead lt (get_or xs i e) xs) ≡ Some (get_or xs i e)
-    at_ahead i e h =
-        let stands = arranged_each (StandsSo (arranged lt xs)) xs (each_stands (arranged lt xs) (in_rank-arranged r xs d)) in
-        subst (λ n. slice_get (arranged lt xs) n ≡ Some (get_or xs i e)) (counted-arranged r (λ x. lt x (get_or xs i e)) xs) (All-get_or (StandsSo (arranged lt xs)) xs i e h stands)
+  -- the order that has just i ahead of it, wherever it stands
+  module _ (xs : List Order) (d : Distinct xs) (i : ℕ) where
+    abbrev ys : List Order
+    ys = arranged lt xs
 
-    pub none_ahead : (i : ℕ) → AllByRecursion (λ x. ahead lt x xs ≡ i → ⊥) xs → slice_get (arranged lt xs) i ≡ None
-    none_ahead i a = go (slice_get (arranged lt xs) i) refl
+    search_from : (zs : List Order) → AllByRecursion (StandsSo ys) zs → (AllByRecursion (λ z. ahead lt z ys ≡ i → ⊥) zs → slice_get ys i ≡ None)
+        → find (λ z. ahead lt z xs == i) zs ≡ slice_get ys i
+    search_from [] stands none = sym (none tt)
+    search_from (z ∷ zs) stands none =
+        let same = counted-arranged r (λ y. lt y z) xs in
+        cond_both (ahead lt z xs == i) (Some z) (find (λ y. ahead lt y xs == i) zs) (λ o. o ≡ slice_get ys i)
+        (λ h. let e : ahead lt z ys ≡ i = grind (arith, nat_tests) in sym stands.0 ∙ ap (slice_get ys) e)
+        (λ h. search_from zs stands.1 (λ rest. none ((λ e. let f : ahead lt z xs ≡ i = omega arith in both_ways _ h (eq-eqb _ _ f)), rest)))
+
+    none_ahead : AllByRecursion (λ x. ahead lt x ys ≡ i → ⊥) xs → slice_get ys i ≡ None
+    none_ahead a = go (slice_get ys i) refl
       where
-        go : (o : Option Order) → slice_get (arranged lt xs) i ≡ o → o ≡ None
+        go : (o : Option Order) → slice_get ys i ≡ o → o ≡ None
         go None e = refl
         go (Some o) e =
-            absurd (all_nth (λ x. ahead lt x xs ≡ i → ⊥) (arranged lt xs) i o (each_arranged (λ x. ahead lt x xs ≡ i → ⊥) xs a) e
-            (sym (counted-arranged r (λ x. lt x o) xs) ∙ ahead_nth (arranged lt xs) i o (in_rank-arranged r xs d) e))
+            absurd (all_nth (λ x. ahead lt x ys ≡ i → ⊥) ys i o (each_arranged (λ x. ahead lt x ys ≡ i → ⊥) xs a) e
+            (ahead_nth ys i o (in_rank-arranged r xs d) e))
+
+    pub find-ahead : find (λ x. ahead lt x xs == i) xs ≡ slice_get ys i
+    find-ahead = search_from xs (arranged_each (StandsSo ys) xs (each_stands ys (in_rank-arranged r xs d))) none_ahead

@@ -1,19 +1,25 @@
 -- A book in no order, put in rank order: what is done before or after comes to the same.
 use Rattle.std.proofs.Common.{◌≡◌, ℕ, ◌+◌, [], ◌∷◌, ◌++◌, length, refl, ap, ◌∙◌, arith}
+use Rattle.std.specs.List.{find}
+use Rattle.std.specs.Option.{option_or}
 use Rattle.rules.specs.Book.{Book, side}
 use Rattle.rules.specs.Rank.{before}
 use Rattle.rules.specs.declared.order.Direction.{Direction}
 use Rattle.rules.specs.declared.order.Direction.TheVariants.{Buy, Sell}
 use Rattle.rules.specs.declared.order.Order.{Order}
-use Rattle.tables.specs.Listing.{numbered, times, Distinct, find, insert, arranged, without, set_volume}
-use Rattle.tables.specs.Meaning.{Once, book_of, with_side, each_side, or_else, lookup}
-use Rattle.tables.specs.Unsorted.{in_order}
-use Rattle.tables.proofs.Arranging.{counted-arranged, length-arranged, arranged_push, arranged-set_volume, arranged-without, find-arranged}
+use Rattle.tables.specs.Listing.{numbered, times, Distinct, insert, arranged, without, set_volume}
+use Rattle.tables.specs.Meaning.{Once, Sorted, book_of, in_order, with_side, each_side, lookup}
+use Rattle.tables.proofs.Arranging.{arranged_same, counted-arranged, length-arranged, arranged_push, arranged-set_volume, arranged-without, find-arranged}
 use Rattle.tables.proofs.Ranking.{ranking}
 
 pub side_in_order : (b : Book) (d : Direction) → side d (in_order b) ≡ arranged (before d) (side d b)
 side_in_order b Buy = refl
 side_in_order b Sell = refl
+
+-- a book in rank order stays as it is
+pub in_order_same : (b : Book) → Sorted b → in_order b ≡ b
+in_order_same b s =
+    ap (λ bs. book_of bs (in_order b).sells) (arranged_same (before Buy) b.buys (s Buy)) ∙ ap (book_of b.buys) (arranged_same (before Sell) b.sells (s Sell))
 
 pub length-in_order : (b : Book) (d : Direction) → length (side d (in_order b)) ≡ length (side d b)
 length-in_order b d = ap length (side_in_order b d) ∙ length-arranged (ranking d) (side d b)
@@ -49,5 +55,5 @@ module _ (b : Book) (once : Once b) where
 
   pub lookup-in_order : (n : ℕ) → lookup n (in_order b) ≡ lookup n b
   lookup-in_order n =
-      ap (λ o. or_else o (find n (in_order b).sells)) (find-arranged (ranking Buy) n b.buys buys_apart)
-      ∙ ap (or_else (find n b.buys)) (find-arranged (ranking Sell) n b.sells sells_apart)
+      ap (λ o. option_or o (find (numbered n) (in_order b).sells)) (find-arranged (ranking Buy) n b.buys buys_apart)
+      ∙ ap (option_or (find (numbered n) b.buys)) (find-arranged (ranking Sell) n b.sells sells_apart)

@@ -5,14 +5,16 @@ use Rattle.std.proofs.lemmas.Option.{slice_get-get_or}
 use Rattle.std.proofs.lemmas.List.{length-map, get_or_default}
 use Rattle.std.proofs.lemmas.Bool.{both_ways, cond_both}
 use Rattle.std.proofs.lemmas.Bool.Decides.{nat_tests}
+use Rattle.std.specs.List.{find}
+use Rattle.std.specs.Option.{option_or}
 use Rattle.rules.specs.Book.{Book, side, no_order}
 use Rattle.rules.specs.Side.{same, opposite}
 use Rattle.rules.specs.Rank.{before}
 use Rattle.rules.specs.declared.order.Direction.{Direction}
 use Rattle.rules.specs.declared.order.Direction.TheVariants.{Buy, Sell}
 use Rattle.rules.specs.declared.order.Order.{Order}
-use Rattle.tables.specs.Listing.{numbered, times, find, insert, without, with_volume, volume_at, set_volume, in_rank, on_side}
-use Rattle.tables.specs.Meaning.{Capacity, Sound, book_of, with_side, each_side, or_else, lookup, held, inserted}
+use Rattle.tables.specs.Listing.{numbered, times, insert, without, with_volume, volume_at, set_volume, in_rank, on_side}
+use Rattle.tables.specs.Meaning.{Contents, Sound, listed, holding, put_in, book_of, with_side, each_side, lookup, held}
 use Rattle.tables.specs.Stored.{Stands}
 use Rattle.tables.proofs.Numbers.{find_none, find_some, find_gone, find_at, without_none, without_at, set_volume_none, set_volume_at, times_at, counted-insert, times-without, times-set_volume}
 use Rattle.tables.proofs.Ranking.{ranking, all_insert, all_kept, all-set_volume, in_rank-insert, in_rank_kept, in_rank-set_volume, length-insert}
@@ -26,27 +28,23 @@ sides b n Sell = omega arith
 pub side_none : (b : Book) (n : ℕ) (d : Direction) → times n b.buys + times n b.sells ≡ 0 → times n (side d b) ≡ 0
 side_none b n d e = omega (arith, sides b n d)
 
-both_none : (x y : Option Order) → is_some (or_else x y) ≡ false → (x ≡ None) × (y ≡ None)
+both_none : (x y : Option Order) → is_some (option_or x y) ≡ false → (x ≡ None) × (y ≡ None)
 both_none (Some o) y e = absurd (both_ways true e refl)
 both_none None (Some o) e = absurd (both_ways true e refl)
 both_none None None e = (refl, refl)
 
-some_or : (x y : Option Order) → y ≡ None → or_else x y ≡ x
+some_or : (x y : Option Order) → y ≡ None → option_or x y ≡ x
 some_or (Some o) y e = refl
 some_or None y e = e
 
 -- a number that the other side does not hold
-lookup_side : (b : Book) (n : ℕ) (d : Direction) → times n (side (opposite d) b) ≡ 0 → lookup n b ≡ find n (side d b)
-lookup_side b n Buy e = some_or (find n b.buys) (find n b.sells) (find_none n b.sells e)
-lookup_side b n Sell e = ap (λ x. or_else x (find n b.sells)) (find_none n b.buys e)
+lookup_side : (b : Book) (n : ℕ) (d : Direction) → times n (side (opposite d) b) ≡ 0 → lookup n b ≡ find (numbered n) (side d b)
+lookup_side b n Buy e = some_or (find (numbered n) b.buys) (find (numbered n) b.sells) (find_none n b.sells e)
+lookup_side b n Sell e = ap (λ x. option_or x (find (numbered n) b.sells)) (find_none n b.buys e)
 
 only_side : (f : List Order → List Order) (b : Book) (d : Direction) → f (side (opposite d) b) ≡ side (opposite d) b → with_side d (f (side d b)) b ≡ each_side f b
 only_side f b Buy e = ap (book_of (f b.buys)) (sym e)
 only_side f b Sell e = ap (λ bs. book_of bs (f b.sells)) (sym e)
-
--- one side changed, under the direction that it goes by
-pub changed_side : (f : List Order → List Order) (b : Book) (d e : Direction) (os : List Order) → d ≡ e → os ≡ f (side e b) → with_side e os b ≡ with_side d (f (side d b)) b
-changed_side f b d e os is h = ap (λ xs. with_side e xs b) h ∙ ap (λ x. with_side x (f (side x b)) b) (sym is)
 
 -- a number that is not held
 module _ (b : Book) (n : ℕ) where
@@ -58,20 +56,20 @@ module _ (b : Book) (n : ℕ) where
 
   pub free : held n b ≡ false → times n b.buys + times n b.sells ≡ 0
   free e =
-      let gone = both_none (find n b.buys) (find n b.sells) e in
+      let gone = both_none (find (numbered n) b.buys) (find (numbered n) b.sells) e in
       omega (arith, find_gone n b.buys gone.0, find_gone n b.sells gone.1)
 
-some_side : (x y : Option Order) → is_some y ≡ true → is_some (or_else x y) ≡ true
+some_side : (x y : Option Order) → is_some y ≡ true → is_some (option_or x y) ≡ true
 some_side (Some o) y e = refl
 some_side None y e = e
 
-first_side : (x y : Option Order) → is_some x ≡ true → is_some (or_else x y) ≡ true
+first_side : (x y : Option Order) → is_some x ≡ true → is_some (option_or x y) ≡ true
 first_side (Some o) y e = refl
 first_side None y e = absurd (both_ways false refl e)
 
 pub held_on : (b : Book) (n : ℕ) (d : Direction) (i : ℕ) → Stands n (side d b) i → held n b ≡ true
-held_on b n Buy i s = first_side (find n b.buys) (find n b.sells) (find_some n b.buys (times_at n b.buys i s))
-held_on b n Sell i s = some_side (find n b.buys) (find n b.sells) (find_some n b.sells (times_at n b.sells i s))
+held_on b n Buy i s = first_side (find (numbered n) b.buys) (find (numbered n) b.sells) (find_some n b.buys (times_at n b.buys i s))
+held_on b n Sell i s = some_side (find (numbered n) b.buys) (find (numbered n) b.sells) (find_some n b.sells (times_at n b.sells i s))
 
 -- the order with the number n stands on side d at index i
 module _ (b : Book) (n : ℕ) (once : times n b.buys + times n b.sells ≤ 1) (d : Direction) (i : ℕ) (s : Stands n (side d b) i) where
@@ -94,8 +92,11 @@ side_of : (f : List Order → List Order) (b : Book) (d : Direction) → side d 
 side_of f b Buy = refl
 side_of f b Sell = refl
 
-module _ (c : Capacity) (b : Book) (s : Sound c b) where
-  pub sound_removed : (n : ℕ) → Sound c (each_side (without n) b)
+module _ (t : Contents) (s : Sound t) where
+  abbrev b : Book
+  b = t.book
+
+  pub sound_removed : (n : ℕ) → Sound (holding t (each_side (without n) b))
   sound_removed n =
       let is = side_of (without n) b in
       record {
@@ -105,7 +106,7 @@ module _ (c : Capacity) (b : Book) (s : Sound c b) where
         once = λ m. omega (arith, s.once m, times-without m n b.buys, times-without m n b.sells);
       }
 
-  pub sound_volume_set : (n v : ℕ) → Sound c (each_side (set_volume n v) b)
+  pub sound_volume_set : (n v : ℕ) → Sound (holding t (each_side (set_volume n v) b))
   sound_volume_set n v =
       let is = side_of (set_volume n v) b in
       record {
@@ -137,14 +138,15 @@ times_side : (b : Book) (d : Direction) (os : List Order) (m : ℕ) → times m 
 times_side b Buy os m = refl
 times_side b Sell os m = omega arith
 
-pub sound_inserted : (c : Capacity) (b : Book) (o : Order) → Sound c b → length (side o.direction b) < c.places → times o.number b.buys + times o.number b.sells ≡ 0 → Sound c (inserted o b)
-sound_inserted c b o s room free =
+pub sound_inserted : (t : Contents) (o : Order) → Sound t → length (listed o.direction t) < t.capacity.places → times o.number t.book.buys + times o.number t.book.sells ≡ 0 → Sound (put_in o t)
+sound_inserted t o s room free =
+    let b = t.book in
     let d = o.direction in
     let lt = before d in
     let os = insert lt o (side d b) in
     let none = side_none b o.number d free in
     record {
-      fits = side_by_side b d os (λ e xs. length xs ≤ c.places) (omega (arith, length-insert lt o (side d b))) s.fits;
+      fits = side_by_side b d os (λ e xs. length xs ≤ t.capacity.places) (omega (arith, length-insert lt o (side d b))) s.fits;
       sorted = side_by_side b d os (λ e xs. in_rank (before e) xs ≡ true) (in_rank-insert (ranking d) o (side d b) none (s.sorted d)) s.sorted;
       sided = side_by_side b d os (λ e xs. on_side e xs ≡ true) (all_insert (λ x. same x.direction d) lt o (side d b) (same_itself d) (s.sided d)) s.sided;
       once = λ m.
@@ -163,12 +165,12 @@ pub stands_at : (b : Book) (d : Direction) (i : ℕ) → i < length (side d b) �
 stands_at b d i below = (below, λ e. ap (λ o. o.number) (get_or_default (side d b) i e no_order below))
 
 -- what every table keeps, after a change at an index
-module _ (c : Capacity) (b : Book) (s : Sound c b) (d : Direction) (i : ℕ) (below : i < length (side d b)) where
+module _ (t : Contents) (s : Sound t) (d : Direction) (i : ℕ) (below : i < length (listed d t)) where
   abbrev n : ℕ
-  n = number_at b d i
+  n = number_at t.book d i
 
-  pub sound_removed_at : Sound c (with_side d (lists.remove (side d b) i) b)
-  sound_removed_at = subst (Sound c) (sym (removed_at b n (s.once n) d i (stands_at b d i below))) (sound_removed c b s n)
+  pub sound_removed_at : Sound (holding t (with_side d (lists.remove (listed d t) i) t.book))
+  sound_removed_at = subst (λ b. Sound (holding t b)) (sym (removed_at t.book n (s.once n) d i (stands_at t.book d i below))) (sound_removed t s n)
 
-  pub sound_volume_set_at : (v : ℕ) (o : Order) → Sound c (with_side d (set (side d b) i (with_volume v (get_or (side d b) i o))) b)
-  sound_volume_set_at v o = subst (Sound c) (sym (volume_set_at b n (s.once n) d i (stands_at b d i below) v o)) (sound_volume_set c b s n v)
+  pub sound_volume_set_at : (v : ℕ) (o : Order) → Sound (holding t (with_side d (set (listed d t) i (with_volume v (get_or (listed d t) i o))) t.book))
+  sound_volume_set_at v o = subst (λ b. Sound (holding t b)) (sym (volume_set_at t.book n (s.once n) d i (stands_at t.book d i below) v o)) (sound_volume_set t s n v)

@@ -1,5 +1,4 @@
 pub mod Arranging
-pub mod Halving
 pub mod Keeps
 pub mod Numbers
 pub mod Places
@@ -7,4 +6,7 @@ pub mod InOrder
 pub mod Ranking
 pub mod Replays
 pub mod Shifts
+pub mod Stands
+pub mod Sides
 pub mod Slotted
+pub mod Halving

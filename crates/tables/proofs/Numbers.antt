@@ -1,15 +1,15 @@
 -- Numbers in a list: which are held how often, before and after a change.
-use Rattle.std.proofs.Common.{◌≡◌, ℕ, zero, suc, ◌+◌, ◌<◌, ◌≤◌, Bool, true, cond, List, [], ◌∷◌, get_or, set, is_some, None, refl, ap, ⊎_elim, arith}
-use Rattle.std.specs.List.{remove, slice_get}
+use Rattle.std.proofs.Common.{◌≡◌, length, filter, ℕ, zero, suc, ◌+◌, ◌<◌, ◌≤◌, Bool, true, cond, List, [], ◌∷◌, get_or, set, is_some, None, refl, ap, ⊎_elim, arith}
+use Rattle.std.specs.List.{remove, slice_get, find}
 use Rattle.std.proofs.lemmas.Bool.{both_ways, cases_lt}
 use Rattle.std.proofs.lemmas.Bool.Decides.{nat_tests}
 use Rattle.rules.specs.declared.order.Order.{Order}
-use Rattle.tables.specs.Listing.{counted, times, find, insert, without, with_volume, set_volume}
+use Rattle.tables.specs.Listing.{counted, numbered, times, insert, without, with_volume, set_volume}
 use Rattle.tables.specs.Stored.{Stands}
 
 -- a number that is not held
 module _ (n : ℕ) where
-  pub find_none : (xs : List Order) → times n xs ≡ 0 → find n xs ≡ None
+  pub find_none : (xs : List Order) → times n xs ≡ 0 → find (numbered n) xs ≡ None
   find_none [] e = refl
   find_none (x ∷ xs) e =
       let tail : times n xs ≡ 0 = omega arith in
@@ -30,11 +30,11 @@ module _ (n : ℕ) where
       let ih = set_volume_none v xs tail in
       grind (arith, nat_tests)
 
-  pub find_some : (xs : List Order) → 0 < times n xs → is_some (find n xs) ≡ true
+  pub find_some : (xs : List Order) → 0 < times n xs → is_some (find (numbered n) xs) ≡ true
   find_some [] h = absurd (omega arith)
   find_some (x ∷ xs) h = let ih = find_some xs in grind (arith, nat_tests)
 
-  pub find_gone : (xs : List Order) → find n xs ≡ None → times n xs ≡ 0
+  pub find_gone : (xs : List Order) → find (numbered n) xs ≡ None → times n xs ≡ 0
   find_gone xs e = ⊎_elim (λ (h : 0 < times n xs). absurd (both_ways _ (ap is_some e) (find_some xs h))) (λ (h : times n xs ≤ 0). omega arith) (cases_lt 0 (times n xs))
 
   pub times_at : (xs : List Order) (i : ℕ) → Stands n xs i → 0 < times n xs
@@ -43,7 +43,7 @@ module _ (n : ℕ) where
   times_at (x ∷ xs) (suc i) s = let ih = times_at xs i (omega (arith, s.0), s.1) in grind (arith, nat_tests)
 
   -- the number stands at i, and nowhere else
-  pub find_at : (xs : List Order) (i : ℕ) → Stands n xs i → times n xs ≤ 1 → slice_get xs i ≡ find n xs
+  pub find_at : (xs : List Order) (i : ℕ) → Stands n xs i → times n xs ≤ 1 → slice_get xs i ≡ find (numbered n) xs
   find_at [] i s e = absurd (omega (arith, s.0))
   find_at (x ∷ xs) zero s e = let h = s.1 x in grind (arith, nat_tests)
   find_at (x ∷ xs) (suc i) s e =
@@ -79,6 +79,10 @@ module _ (n : ℕ) where
 pub counted-insert : (test : Order → Bool) (lt : Order → Order → Bool) (o : Order) (xs : List Order) → counted test (insert lt o xs) ≡ cond (test o) 1 0 + counted test xs
 counted-insert test lt o [] = refl
 counted-insert test lt o (x ∷ xs) = let ih = counted-insert test lt o xs in grind arith
+
+pub length-kept : (test : Order → Bool) (xs : List Order) → length (filter test xs) ≡ counted test xs
+length-kept test [] = refl
+length-kept test (x ∷ xs) = let ih = length-kept test xs in grind arith
 
 -- what a change does to the count of a number
 module _ (m : ℕ) where

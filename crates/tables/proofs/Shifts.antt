@@ -1,90 +1,63 @@
--- A row of which a part is moved one place on or back, element by element.
-use Rattle.std.proofs.Common.{◌≡◌, ℕ, ◌+◌, ◌-◌, ◌<◌, ◌≤◌, List, [], ◌∷◌, ◌++◌, length, get_or, take, drop, set, sym, refl, ap, ◌∙◌, append-nil, add-one, arith}
-use lib.Seq.{take-set-lt}
+-- A row of which a part was turned by one: an element put in, or taken out.
+use Rattle.std.proofs.Common.{◌≡◌, ℕ, suc, ◌+◌, ◌-◌, ◌<◌, ◌≤◌, List, ◌∷◌, ◌++◌, length, take, drop, set, sym, refl, ap, ◌∙◌, arith}
+use borrow.Rule.Slice.PartMut.{put_mid}
 use Rattle.std.specs.List.{insert, remove}
-use Rattle.std.proofs.lemmas.List.{append_assoc, length-take-le, get_or-take, take-take, take-set-le, take_more, take_more_set, drop_all, drop_more, drop-append-le, drop-set, drop-set-lt, take-append-drop}
+use Rattle.std.proofs.lemmas.List.{append_assoc, length-append, length-take-le, length-drop, take-take, take_at, drop_at, drop-drop, drop-take, set_split}
 
-module _ {X : Type 0} where
-  front : (xs ys : List X) (m n : ℕ) → m ≤ n → take n xs ≡ take n ys → take m xs ≡ take m ys
-  front xs ys m n le e = sym (take-take m n xs le) ∙ ap (take m) e ∙ take-take m n ys le
+module _ {X : Type 0} (xs : List X) (i n : ℕ) (le : i ≤ n) (within : n ≤ length xs) where
+  behind : drop i (take n xs) ≡ take (n - i) (drop i xs)
+  behind = let e : n ≡ i + (n - i) = omega arith in ap (λ m. drop i (take m xs)) e ∙ drop-take i (n - i) xs
 
-  same_at : (xs ys : List X) (i n : ℕ) (d : X) → i < n → take n xs ≡ take n ys → get_or xs i d ≡ get_or ys i d
-  same_at xs ys i n d lt e = sym (get_or-take n xs i d lt) ∙ ap (λ zs. get_or zs i d) e ∙ get_or-take n ys i d lt
+  front : take i (take n xs) ≡ take i xs
+  front = take-take i n xs le
 
-  -- the row `ys` began as `xs`, and those of the first `count` from `i` on stand one place on
-  pub record Opened (xs ys : List X) (count i : ℕ) : Type 0 where
-    pub still : take (i + 1) ys ≡ take (i + 1) xs
-    pub moved : drop (i + 1) (take (count + 1) ys) ≡ drop i (take count xs)
+  one_more : i + 1 ≡ suc i
+  one_more = omega arith
 
-  pub opened_none : (xs : List X) (count : ℕ) → count < length xs → Opened xs xs count count
-  opened_none xs count lt =
-      let l = length-take-le count xs (omega arith) in
-      let m = length-take-le (count + 1) xs (omega arith) in
-      record { still = refl; moved = drop_all (count + 1) (take (count + 1) xs) (omega arith) ∙ sym (drop_all count (take count xs) (omega arith)) }
+  length_front : length (take i xs) ≡ i
+  length_front = length-take-le i xs (omega arith)
 
-  pub opened_more : (xs ys : List X) (count i : ℕ) (d : X) → i < count → count < length xs → length ys ≡ length xs → Opened xs ys count (i + 1) → Opened xs (set ys (i + 1) (get_or ys i d)) count i
-  opened_more xs ys count i d below within long o =
-      let x = get_or ys i d in
-      let zs = take (count + 1) ys in
-      let m = length-take-le (count + 1) ys (omega arith) in
-      let l = length-take-le count xs (omega arith) in
-      let same : x ≡ get_or (take count xs) i d =
-      same_at ys xs i (i + 1 + 1) d (omega arith) o.still ∙ sym (get_or-take count xs i d below) in
-      record {
-        still = take-set-le (i + 1) ys (i + 1) x (omega arith) ∙ front ys xs (i + 1) (i + 1 + 1) (omega arith) o.still;
-        moved =
-            ap (drop (i + 1)) (take-set-lt (count + 1) ys (i + 1) x (omega arith))
-            ∙ drop-set zs (i + 1) x (omega arith)
-            ∙ ap (λ rest. x ∷ rest) o.moved
-            ∙ ap (λ y. y ∷ drop (i + 1) (take count xs)) same
-            ∙ sym (drop_more (take count xs) i d (omega arith));
-      }
+  length_part : (k : ℕ) → k ≤ length xs - i → length (take k (drop i xs)) ≡ k
+  length_part k h = length-take-le k (drop i xs) (rw length-drop h)
 
-  -- with y written into the open place
-  pub opened_all : (xs ys : List X) (count at i : ℕ) (y : X) → i ≡ at → at ≤ count → count < length xs → length ys ≡ length xs
-      → Opened xs ys count i → take (count + 1) (set ys at y) ≡ insert (take count xs) at y
-  opened_all xs ys count at i y is le lt long o =
-      let zs = take (count + 1) ys in
-      let l = length-take-le (count + 1) ys (omega arith) in
-      let before : take at ys ≡ take at xs = front ys xs at (i + 1) (omega arith) o.still in
-      let behind : drop (at + 1) zs ≡ drop at (take count xs) = rw (sym is) o.moved in
-      take-set-lt (count + 1) ys at y (omega arith)
-      ∙ sym (take-append-drop at (set zs at y))
-      ∙ ap (λ b. b ++ drop at (set zs at y)) (take-set-le at zs at y (omega arith) ∙ take-take at (count + 1) ys (omega arith) ∙ before ∙ sym (take-take at count xs le))
-      ∙ ap (λ b. take at (take count xs) ++ b) (drop-set zs at y (omega arith) ∙ ap (λ b. y ∷ b) behind)
+  -- those from i up to n turned left by one, and the last of them left out
+  pub taken_out : i < n → (r : List X) → r ≡ drop 1 (take (n - i) (drop i xs)) ++ take 1 (take (n - i) (drop i xs)) → take (n - 1) (put_mid i (n - i) xs r) ≡ remove (take n xs) i
+  taken_out lt r is =
+      let mid = take (n - i) (drop i xs) in
+      let post = drop (n - i) (drop i xs) in
+      let long = length_part (n - i) (omega arith) in
+      ap (λ ys. take (n - 1) (take i xs ++ (ys ++ post))) is
+      ∙ ap (λ ys. take (n - 1) (take i xs ++ ys)) (append_assoc (drop 1 mid) (take 1 mid) post)
+      ∙ ap (take (n - 1)) (sym (append_assoc (take i xs) (drop 1 mid) (take 1 mid ++ post)))
+      ∙ take_at (take i xs ++ drop 1 mid) (take 1 mid ++ post) (n - 1) (length-append (take i xs) (drop 1 mid) ∙ rw (length_front, length-drop 1 mid, long) (omega arith))
+      ∙ ap (λ ys. ys ++ drop 1 mid) (sym front)
+      ∙ ap (λ ys. take i (take n xs) ++ drop 1 ys) (sym behind)
+      ∙ ap (λ ys. take i (take n xs) ++ ys) (drop-drop 1 i (take n xs) ∙ ap (λ m. drop m (take n xs)) one_more)
 
-  -- the row `ys` began as `xs`, and those behind `at` and up to `i` stand one place back
-  pub record Closed (xs ys : List X) (at i : ℕ) : Type 0 where
-    pub moved : take i ys ≡ take at xs ++ drop (at + 1) (take (i + 1) xs)
-    pub still : drop i ys ≡ drop i xs
-
-  pub closed_none : (xs : List X) (at : ℕ) → at < length xs → Closed xs xs at at
-  closed_none xs at lt =
-      let l = length-take-le (at + 1) xs (omega arith) in
-      record {
-        moved = sym (ap (λ b. take at xs ++ b) (drop_all (at + 1) (take (at + 1) xs) (omega arith)) ∙ append-nil (take at xs));
-        still = refl;
-      }
-
-  pub closed_more : (xs ys : List X) (at i : ℕ) (d : X) → at ≤ i → i + 1 < length xs → length ys ≡ length xs → Closed xs ys at i → Closed xs (set ys i (get_or ys (i + 1) d)) at (i + 1)
-  closed_more xs ys at i d le lt long c =
-      let x = get_or ys (i + 1) d in
-      let l = length-take-le (i + 1) xs (omega arith) in
-      let rest : drop (i + 1) ys ≡ drop (i + 1) xs = cc (drop_more ys i d (omega arith), drop_more xs i d (omega arith), c.still) in
-      let same : x ≡ get_or xs (i + 1) d = cc (drop_more ys (i + 1) d (omega arith), drop_more xs (i + 1) d (omega arith), rest) in
-      record {
-        moved =
-            take_more_set ys i x (omega arith)
-            ∙ ap (λ b. b ++ x ∷ []) c.moved
-            ∙ append_assoc (take at xs) (drop (at + 1) (take (i + 1) xs)) (x ∷ [])
-            ∙ ap (λ y. take at xs ++ (drop (at + 1) (take (i + 1) xs) ++ y ∷ [])) same
-            ∙ ap (λ b. take at xs ++ b) (sym (drop-append-le (at + 1) (take (i + 1) xs) (get_or xs (i + 1) d ∷ []) (omega arith)))
-            ∙ ap (λ b. take at xs ++ drop (at + 1) b) (sym (take_more xs (i + 1) d lt));
-        still = drop-set-lt (i + 1) ys i x (omega arith) ∙ rest;
-      }
-
-  pub closed_all : (xs ys : List X) (at i count : ℕ) → at ≤ i → i + 1 ≡ count → Closed xs ys at i → take (count - 1) ys ≡ remove (take count xs) at
-  closed_all xs ys at i count le is c =
-      let e : count - 1 ≡ i = omega arith in
-      rw e c.moved ∙ ap (λ b. b ++ drop (at + 1) (take (i + 1) xs)) (sym (take-take at (i + 1) xs (omega arith)))
-      ∙ ap (λ n. take at (take n xs) ++ drop (at + 1) (take n xs)) is ∙ rw add-one refl
+  -- those from i on and the place behind the n turned right by one, and y written at i
+  pub put_in : n < length xs → (y : X) (r : List X) → (let mid = take (n + 1 - i) (drop i xs) in r ≡ drop (length mid - 1) mid ++ take (length mid - 1) mid) → take (n + 1) (set (put_mid i (n + 1 - i) xs r) i y) ≡ insert (take n xs) i y
+  put_in lt y r is =
+      let mid = take (n + 1 - i) (drop i xs) in
+      let post = drop (n + 1 - i) (drop i xs) in
+      let a = drop (length mid - 1) mid in
+      let b = take (length mid - 1) mid in
+      let long = length_part (n + 1 - i) (omega arith) in
+      let one : length a ≡ 1 = length-drop (length mid - 1) mid ∙ omega arith in
+      let same : b ≡ take (n - i) (drop i xs) = ap (λ m. take m mid) (ap (λ m. m - 1) long ∙ omega arith) ∙ take-take (n - i) (n + 1 - i) (drop i xs) (omega arith) in
+      let short : length b ≡ n - i = ap length same ∙ length_part (n - i) (omega arith) in
+      let size : length r ≡ 1 + (n - i) = ap length is ∙ length-append a b ∙ rw (one, short) refl in
+      let whole = take i xs ++ (r ++ post) in
+      let fits : i < length whole = rw (length-append, length-append, length_front, size) (omega arith) in
+      let rest : drop (suc i) whole ≡ b ++ post =
+      ap (λ m. drop m whole) (sym one_more)
+      ∙ sym (drop-drop 1 i whole)
+      ∙ ap (drop 1) (drop_at (take i xs) (r ++ post) i length_front ∙ ap (λ ys. ys ++ post) is ∙ append_assoc a b post)
+      ∙ drop_at a (b ++ post) 1 one in
+      ap (take (n + 1)) (
+      set_split whole i y fits
+      ∙ ap (λ ys. ys ++ y ∷ drop (suc i) whole) (take_at (take i xs) (r ++ post) i length_front)
+      ∙ ap (λ ys. take i xs ++ y ∷ ys) rest
+      ∙ sym (append_assoc (take i xs) (y ∷ b) post))
+      ∙ take_at (take i xs ++ y ∷ b) post (n + 1) (length-append (take i xs) (y ∷ b) ∙ rw (length_front, short) (omega arith))
+      ∙ ap (λ ys. ys ++ y ∷ b) (sym front)
+      ∙ ap (λ ys. take i (take n xs) ++ y ∷ ys) (same ∙ sym behind)

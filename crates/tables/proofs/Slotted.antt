@@ -1,72 +1,46 @@
--- What stands in slots, by what every table keeps.
-use Rattle.std.proofs.Common.{◌≡◌, ℕ, ◌+◌, ◌<◌, false, [], ◌∷◌, ◌++◌, length, get_or, set, is_some, Some, Ok, Err, Result, sym, refl, ap, ◌∙◌, subst, arith}
-use Rattle.std.specs.List.{remove}
-use Rattle.rules.specs.Book.{Book, side, no_order}
+-- Slots of which one side was changed.
+use Rattle.std.proofs.Common.{◌≡◌, ℕ, ◌≤◌, List, get_or, set, Vec, vec_items, vec_capacity, sym, refl, ap, ◌∙◌, subst}
+use Rattle.std.specs.declared.alloc.Global.{Global}
+use Rattle.rules.specs.Book.{no_order}
 use Rattle.rules.specs.declared.order.Direction.{Direction}
 use Rattle.rules.specs.declared.order.Direction.TheVariants.{Buy, Sell}
 use Rattle.rules.specs.declared.order.Order.{Order}
 use Rattle.tables.specs.declared.place.Place.{Place}
-use Rattle.tables.specs.declared.table.No.{No}
 use Rattle.tables.specs.declared.unsorted.Unsorted.{Unsorted}
-use Rattle.tables.specs.Listing.{times, Distinct, without, set_volume, with_volume}
-use Rattle.tables.specs.Meaning.{Sound, Once, with_side, each_side, held, lookup, inserted}
-use Rattle.tables.specs.Stored.{Stands, Placed}
-use Rattle.tables.specs.Unsorted.{stored, in_order, meant, capacity, Kept, overwritten}
-use Rattle.tables.proofs.Keeps.{free, side_none, lookup_at, removed_at, volume_set_at, sound_inserted, sound_removed, sound_volume_set, number_at, stands_at}
-use Rattle.tables.proofs.InOrder.{times-in_order, side_apart, pushed_in_order, volume_set_in_order, removed_in_order, lookup-in_order}
+use Rattle.tables.specs.Both.{of, with_other}
+use Rattle.tables.specs.Listing.{with_volume}
+use Rattle.tables.specs.Meaning.{Sound, listed, holding, ordered, with_side}
+use Rattle.tables.specs.Slots.{capacity, stored, overwritten, Kept}
+use Rattle.tables.specs.Stored.{with_volume_at}
 
--- the orders u of which the slots keep what they should
-module _ (u : Unsorted) (k : Kept u) where
-  abbrev b : Book
-  b = stored u
+-- u with other orders on a side
+abbrev pub with_row : Direction → Vec Order Global → Unsorted → Unsorted
+with_row d v u = record { orders = with_other d v u.orders }
 
-  once : Once b
-  once n = omega (arith, k.sound.once n, times-in_order b n)
+pub row_is : (d : Direction) (u : Unsorted) → vec_items (of d u.orders) ≡ listed d (stored u)
+row_is Buy u = refl
+row_is Sell u = refl
 
-  pub apart : (d : Direction) → Distinct (side d b)
-  apart = side_apart b once
+stored_with : (d : Direction) (v : Vec Order Global) (u : Unsorted) → stored (with_row d v u) ≡ holding (stored u) (with_side d (vec_items v) (stored u).book)
+stored_with Buy v u = refl
+stored_with Sell v u = refl
 
-  pub placed : (n : ℕ) (r : Result Place No) → Placed n b b r → Placed n (meant u) b r
-  placed n (Ok p) e = (ap is_some (lookup-in_order b once n) ∙ e.0, e.1)
-  placed n (Err x) e = ap is_some (lookup-in_order b once n) ∙ e
+-- what stands then, where the orders are f of those that stood there
+pub changed_row : (f : List Order → List Order) (d : Direction) (v : Vec Order Global) (u : Unsorted) → vec_items v ≡ f (vec_items (of d u.orders))
+    → stored (with_row d v u) ≡ holding (stored u) (with_side d (f (listed d (stored u))) (stored u).book)
+changed_row f d v u e = stored_with d v u ∙ ap (λ os. holding (stored u) (with_side d os (stored u).book)) (e ∙ ap f (row_is d u))
 
-  pub found : (n : ℕ) (d : Direction) (i : ℕ) → Stands n (side d b) i → Some (get_or (side d b) i no_order) ≡ lookup n (meant u)
-  found n d i s = lookup_at b n (once n) d i s ∙ sym (lookup-in_order b once n)
+pub reserved : (d : Direction) (u : Unsorted) → Kept u → capacity.places ≤ vec_capacity (of d u.orders)
+reserved Buy u k = k.buys
+reserved Sell u k = k.sells
 
-  -- an order that is taken, put behind the others
-  module _ (o : Order) (room : length (side o.direction (meant u)) < capacity.places) (new : held o.number (meant u) ≡ false) (c : Book) (is : c ≡ with_side o.direction (side o.direction b ++ o ∷ []) b) where
-    none : times o.number (meant u).buys + times o.number (meant u).sells ≡ 0
-    none = free (meant u) o.number new
+pub kept_with : (d : Direction) (v : Vec Order Global) (u : Unsorted) → Kept u → vec_capacity v ≡ vec_capacity (of d u.orders) → Sound (ordered (stored (with_row d v u))) → Kept (with_row d v u)
+kept_with Buy v u k e s = record { buys = subst (λ n. capacity.places ≤ n) (sym e) k.buys; sells = k.sells; sound = s }
+kept_with Sell v u k e s = record { buys = k.buys; sells = subst (λ n. capacity.places ≤ n) (sym e) k.sells; sound = s }
 
-    pub put_in : in_order c ≡ inserted o (meant u)
-    put_in = ap in_order is ∙ pushed_in_order b o o.direction (side_none b o.number o.direction (sym (times-in_order b o.number) ∙ none))
-
-    pub sound_put : Sound capacity (in_order c)
-    sound_put = subst (Sound capacity) (sym put_in) (sound_inserted capacity (meant u) o k.sound room none)
-
-  -- a change at an index
-  module _ (d : Direction) (i : ℕ) (c : Book) where
-    module _ (is : c ≡ with_side d (remove (side d b) i) b) where
-      pub taken_out : (n : ℕ) → Stands n (side d b) i → in_order c ≡ each_side (without n) (meant u)
-      taken_out n s = ap in_order (is ∙ removed_at b n (once n) d i s) ∙ removed_in_order b once n
-
-      pub sound_taken : i < length (side d b) → Sound capacity (in_order c)
-      sound_taken below =
-          subst (Sound capacity) (sym (taken_out (number_at b d i) (stands_at b d i below))) (sound_removed capacity (meant u) k.sound (number_at b d i))
-
-    module _ (v : ℕ) (is : c ≡ with_side d (set (side d b) i (with_volume v (get_or (side d b) i no_order))) b) where
-      pub given : (n : ℕ) → Stands n (side d b) i → in_order c ≡ each_side (set_volume n v) (meant u)
-      given n s = ap in_order (is ∙ volume_set_at b n (once n) d i s v no_order) ∙ volume_set_in_order b n v
-
-      pub sound_given : i < length (side d b) → Sound capacity (in_order c)
-      sound_given below =
-          subst (Sound capacity) (sym (given (number_at b d i) (stands_at b d i below))) (sound_volume_set capacity (meant u) k.sound (number_at b d i) v)
-
--- an order written over another
-pub overwritten_stored : (d : Direction) (i : ℕ) (o : Order) (u : Unsorted) → stored (overwritten d i o u) ≡ with_side d (set (side d (stored u)) i o) (stored u)
-overwritten_stored Buy i o u = refl
-overwritten_stored Sell i o u = refl
-
-pub overwritten_kept : (d : Direction) (i : ℕ) (o : Order) (u : Unsorted) → Kept u → Sound capacity (meant (overwritten d i o u)) → Kept (overwritten d i o u)
-overwritten_kept Buy i o u k s = record { buys = k.buys; sells = k.sells; sound = s }
-overwritten_kept Sell i o u k s = record { buys = k.buys; sells = k.sells; sound = s }
+pub written : (p : Place) (v : ℕ) (o : Order) (u : Unsorted) → o ≡ get_or (vec_items (of p.direction u.orders)) p.index no_order
+    → stored (overwritten p (with_volume v o) u) ≡ with_volume_at p v (stored u)
+written p v o u is =
+    changed_row (λ os. set os p.index (with_volume v o)) p.direction _ u refl
+    ∙ ap (λ (x : Order). holding (stored u) (with_side p.direction (set (listed p.direction (stored u)) p.index (with_volume v x)) (stored u).book))
+    (is ∙ ap (λ os. get_or os p.index no_order) (row_is p.direction u))

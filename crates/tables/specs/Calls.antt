@@ -1,44 +1,38 @@
--- What a table answers to a list of calls: its capacity and the calls decide it, and nothing else.
-use Rattle.std.specs.Prelude.{List, [], ◌∷◌, length, Ok, Err, Result}
+-- What a table answers to a list of calls: what it means decides it, and nothing else.
+use Rattle.std.specs.Prelude.{List, [], ◌∷◌, length, true}
 use Rattle.std.specs.List.{slice_get}
-use Rattle.rules.specs.Book.{Book, side}
 use Rattle.tables.specs.declared.calls.Call.{Call}
 use Rattle.tables.specs.declared.calls.Call.TheVariants.{Clear, At, Count, Places, Find, Add, SetVolume, Remove}
 use Rattle.tables.specs.declared.calls.Reply.{Reply}
-use Rattle.tables.specs.declared.calls.Reply.TheVariants.{Done, Refused, Counted, Found}
-use Rattle.tables.specs.declared.table.No.{No}
-use Rattle.tables.specs.Meaning.{Capacity, empty, lookup, held, takes, sets_volume, said, added, volume_set, removed}
+use Rattle.tables.specs.declared.calls.Reply.TheVariants.{Answered, Counted, Found}
+use Rattle.tables.specs.Meaning.{Contents, listed, cleared, lookup, held, takes, sets_volume, said, added, volume_set, removed}
 
-abbrev pub reply_of : Result (Unit {0}) No → Reply
-reply_of (Ok x) = Done
-reply_of (Err x) = Refused
+abbrev pub reply : Contents → Call → Reply
+reply t Clear = Answered (said true)
+reply t (At d i) = Found (slice_get (listed d t) i)
+reply t (Count d) = Counted (length (listed d t))
+reply t Places = Counted t.capacity.places
+reply t (Find n) = Found (lookup n t.book)
+reply t (Add o) = Answered (said (takes t o))
+reply t (SetVolume n v) = Answered (said (sets_volume n v t))
+reply t (Remove n) = Answered (said (held n t.book))
 
-abbrev pub reply : Capacity → Book → Call → Reply
-reply c b Clear = Done
-reply c b (At d i) = Found (slice_get (side d b) i)
-reply c b (Count d) = Counted (length (side d b))
-reply c b Places = Counted c.places
-reply c b (Find n) = Found (lookup n b)
-reply c b (Add o) = reply_of (said (takes c b o))
-reply c b (SetVolume n v) = reply_of (said (sets_volume n v b))
-reply c b (Remove n) = reply_of (said (held n b))
-
--- the book after a call
-abbrev pub after : Capacity → Book → Call → Book
-after c b Clear = empty
-after c b (At d i) = b
-after c b (Count d) = b
-after c b Places = b
-after c b (Find n) = b
-after c b (Add o) = added c b o
-after c b (SetVolume n v) = volume_set n v b
-after c b (Remove n) = removed n b
+-- what the table means after a call
+abbrev pub after : Contents → Call → Contents
+after t Clear = cleared t
+after t (At d i) = t
+after t (Count d) = t
+after t Places = t
+after t (Find n) = t
+after t (Add o) = added o t
+after t (SetVolume n v) = volume_set n v t
+after t (Remove n) = removed n t
 
 -- call after call
-abbrev pub replies : Capacity → Book → List Call → List Reply
-replies c b [] = []
-replies c b (call ∷ calls) = reply c b call ∷ replies c (after c b call) calls
+abbrev pub replies : Contents → List Call → List Reply
+replies t [] = []
+replies t (call ∷ calls) = reply t call ∷ replies (after t call) calls
 
-abbrev pub all_after : Capacity → Book → List Call → Book
-all_after c b [] = b
-all_after c b (call ∷ calls) = all_after c (after c b call) calls
+abbrev pub all_after : Contents → List Call → Contents
+all_after t [] = t
+all_after t (call ∷ calls) = all_after (after t call) calls

@@ -1,5 +1,6 @@
 -- The orders of one side as a list, and what a table does to it. `lt a b` says that a ranks before b.
-use Rattle.std.specs.Prelude.{ℕ, ◌+◌, ◌≤◌, Bool, true, cond, not, ◌&&◌, List, [], ◌∷◌, map, Some, None, filter, Option, ◌==◌}
+use Rattle.std.specs.Prelude.{ℕ, ◌+◌, ◌≤◌, Bool, true, cond, not, ◌&&◌, List, [], ◌∷◌, map, filter, ◌==◌}
+use Rattle.std.specs.List.{list_all}
 use Rattle.rules.specs.Side.{same}
 use Rattle.rules.specs.declared.order.Direction.{Direction}
 use Rattle.rules.specs.declared.order.Order.{Order}
@@ -23,11 +24,6 @@ Distinct os = (n : ℕ) → times n os ≤ 1
 -- how many rank before o
 abbrev pub ahead : (Order → Order → Bool) → Order → List Order → ℕ
 ahead lt o os = counted (λ x. lt x o) os
-
--- the order with the number n
-abbrev pub find : ℕ → List Order → Option Order
-find n [] = None
-find n (o ∷ os) = cond (numbered n o) (Some o) (find n os)
 
 -- o at its rank: before the first that it ranks before
 abbrev pub insert : (Order → Order → Bool) → Order → List Order → List Order
@@ -63,15 +59,11 @@ volume_at n v o = cond (numbered n o) (with_volume v o) o
 abbrev pub set_volume : ℕ → ℕ → List Order → List Order
 set_volume n v os = map (volume_at n v) os
 
-abbrev pub all : (Order → Bool) → List Order → Bool
-all test [] = true
-all test (o ∷ os) = test o && all test os
-
 -- each ranks before all that follow it
 abbrev pub in_rank : (Order → Order → Bool) → List Order → Bool
 in_rank lt [] = true
-in_rank lt (o ∷ os) = all (lt o) os && in_rank lt os
+in_rank lt (o ∷ os) = list_all (lt o) os && in_rank lt os
 
 -- each is an order of side d
 abbrev pub on_side : Direction → List Order → Bool
-on_side d os = all (λ o. same o.direction d) os
+on_side d os = list_all (λ o. same o.direction d) os

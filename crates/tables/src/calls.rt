@@ -1,12 +1,13 @@
 // A table's calls as values, so that a list of them can be worked on any table.
 ghost use Rattle.std.specs.Prelude.{◌≡◌, IfOk, MatchResult, OnOk};
-ghost use Rattle.tables.specs.Calls.{reply_of as reply_to, reply, after, replies, all_after};
-ghost use Rattle.tables.specs.Meaning.{empty};
+ghost use Rattle.tables.specs.Calls.{reply, after as after_call, replies, all_after};
+ghost use Rattle.tables.specs.Meaning.{cleared};
 
 use crate::table::{No, Table};
 use rules::order::{Direction, Order};
 use std::alloc::{AllocError, Global};
 
+// Values and no closures: a list of them is printed beside its answers, and the law below is over any such list.
 #[derive(Clone, Copy)]
 pub enum Call {
     Clear,
@@ -21,39 +22,28 @@ pub enum Call {
 
 #[derive(Clone, Copy)]
 pub enum Reply {
-    Done,
-    Refused,
+    Answered(Result<(), No>),
     Counted(usize),
     Found(Option<Order>),
 }
 
-fn reply_of(answer: Result<(), No>) -> Reply
-    ensures { result ≡ reply_to answer }
-{
-    match answer {
-        Ok(()) => Reply::Done,
-        Err(No) => Reply::Refused,
-    }
-}
-
 // Works one call.
 pub fn work<T: Table>(table: &mut T, call: Call) -> Reply
-    ensures answer { result ≡ reply (T.Table.capacity table.old) (T.Table.book table.old) call }
-    ensures lists { T.Table.book table.new ≡ after (T.Table.capacity table.old) (T.Table.book table.old) call }
-    ensures room { T.Table.capacity table.new ≡ T.Table.capacity table.old }
+    ensures answer { result ≡ reply (T.Table.contents table.old) call }
+    ensures after { T.Table.contents table.new ≡ after_call (T.Table.contents table.old) call }
 {
     match call {
         Call::Clear => {
             table.clear();
-            Reply::Done
+            Reply::Answered(Ok(()))
         }
         Call::At { direction, rank } => Reply::Found(table.at(direction, rank)),
         Call::Count { direction } => Reply::Counted(table.count(direction)),
         Call::Places => Reply::Counted(table.places()),
         Call::Find { number } => Reply::Found(table.find(number)),
-        Call::Add { order } => reply_of(table.add(order)),
-        Call::SetVolume { number, volume } => reply_of(table.set_volume(number, volume)),
-        Call::Remove { number } => reply_of(table.remove(number)),
+        Call::Add { order } => Reply::Answered(table.add(order)),
+        Call::SetVolume { number, volume } => Reply::Answered(table.set_volume(number, volume)),
+        Call::Remove { number } => Reply::Answered(table.remove(number)),
     }
 }
 
@@ -63,9 +53,9 @@ pub fn replay<T: Table>(
     table: &mut T,
     calls: &[Call],
 ) -> Result<Vec<Reply>, AllocError>
-    ensures answers { IfOk result (λ v. v.items ≡ replies (T.Table.capacity table.old) empty calls.now) }
-    ensures lists { MatchResult result (λ _. T.Table.book table.new ≡ all_after (T.Table.capacity table.old) empty calls.now) (λ _. T.Table.book table.new ≡ T.Table.book table.old) }
-    ensures room { T.Table.capacity table.new ≡ T.Table.capacity table.old }
+    ensures answers { IfOk result (λ v. v.items ≡ replies (cleared (T.Table.contents table.old)) calls.now) }
+    ensures room { (T.Table.contents table.new).capacity ≡ (T.Table.contents table.old).capacity }
+    ensures after { MatchResult result (λ _. T.Table.contents table.new ≡ all_after (cleared (T.Table.contents table.old)) calls.now) (λ _. T.Table.contents table.new ≡ T.Table.contents table.old) }
 {
     let mut given = Vec::with_capacity(heap, calls.len())?;
     table.clear();
@@ -82,10 +72,10 @@ pub fn replay_both<A: Table, B: Table>(
     other: &mut B,
     calls: &[Call],
 ) -> Result<(Vec<Reply>, Vec<Reply>), AllocError>
-    ensures answers { IfOk result (λ p. (p.0.items ≡ replies (A.Table.capacity one.old) empty calls.now) × (p.1.items ≡ replies (B.Table.capacity other.old) empty calls.now)) }
-    ensures lists { OnOk result ((A.Table.book one.new ≡ all_after (A.Table.capacity one.old) empty calls.now) × (B.Table.book other.new ≡ all_after (B.Table.capacity other.old) empty calls.now)) }
-    ensures room { (A.Table.capacity one.new ≡ A.Table.capacity one.old) × (B.Table.capacity other.new ≡ B.Table.capacity other.old) }
-    ensures equal { A.Table.capacity one.old ≡ B.Table.capacity other.old → IfOk result (λ p. p.0.items ≡ p.1.items) }
+    ensures answers { IfOk result (λ p. (p.0.items ≡ replies (cleared (A.Table.contents one.old)) calls.now) × (p.1.items ≡ replies (cleared (B.Table.contents other.old)) calls.now)) }
+    ensures after { OnOk result ((A.Table.contents one.new ≡ all_after (cleared (A.Table.contents one.old)) calls.now) × (B.Table.contents other.new ≡ all_after (cleared (B.Table.contents other.old)) calls.now)) }
+    ensures room { ((A.Table.contents one.new).capacity ≡ (A.Table.contents one.old).capacity) × ((B.Table.contents other.new).capacity ≡ (B.Table.contents other.old).capacity) }
+    ensures equal { (A.Table.contents one.old).capacity ≡ (B.Table.contents other.old).capacity → IfOk result (λ p. p.0.items ≡ p.1.items) }
 {
     let first = replay(heap, one, calls)?;
     let second = replay(heap, other, calls)?;

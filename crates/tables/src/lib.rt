@@ -1,8 +1,8 @@
 // Tables of orders: what a table means, and tables that show just that.
 #![tactic(auto)]
 
+mod both;
 pub mod calls;
-mod halves;
 mod place;
 pub mod queue;
 mod ranks;

@@ -1,12 +1,11 @@
-// A table in a run of places that is lent to it, in rank order.
-ghost use Rattle.std.specs.Prelude.{◌≡◌, ◌≤◌, length};
-ghost use Rattle.tables.specs.Meaning.{Fits, Sorted, Sided, Once, empty};
-ghost use Rattle.tables.specs.Run.{stored, capacity as capacity_of, room as room_of, Halved, Roomy};
+// A table in a run of places that is lent to it: buys in its first half, sells in its second, each in rank order.
+ghost use Rattle.std.specs.Prelude.{◌≡◌, length};
+ghost use Rattle.tables.specs.Run.{Kept, half as half_of, start as start_of, stored as stored_in, empty_in};
 
-use crate::halves::Halves;
-use crate::store;
+use crate::both::Both;
+use crate::place::Place;
+use crate::rows::{insert_into, remove_at};
 use crate::store::Store;
-use crate::table::{No, Table};
 use rules::order::{Direction, Order};
 
 // The most orders that a side of a queue holds.
@@ -14,72 +13,84 @@ const MOST: usize = 512;
 
 #[derive(Drop)]
 pub struct Queue<'a> {
-    halves: Halves<'a>,
-    ghost halved: { Halved halves },
-    ghost roomy: { Roomy halves },
-    ghost buys: { halves.buys ≤ halves.half },
-    ghost sells: { halves.sells ≤ halves.half },
-    ghost fits: { Fits (capacity_of halves) (stored halves) },
-    ghost sorted: { Sorted (stored halves) },
-    ghost sided: { Sided (stored halves) },
-    ghost once: { Once (stored halves) },
+    // the caller's, so no vector
+    run: &'a mut [Order],
+    // how many orders each side holds
+    counts: Both<usize>,
+    ghost kept: { Kept run.now counts },
 }
 
 impl<'a> Queue<'a> {
     // An empty queue over a run, which it holds as long as it lasts.
     pub fn new(run: &'a mut [Order]) -> Self
-        ensures lists { stored result.halves ≡ empty }
-        ensures room { capacity_of result.halves ≡ room_of (length run.old) }
+        ensures { stored_in result.run.now result.counts ≡ empty_in (length run.old) }
     {
-        let half = run.len() / 2;
         Queue {
-            halves: Halves {
-                run,
-                half,
-                places: half.min(MOST),
-                buys: 0,
-                sells: 0,
-            },
+            run,
+            counts: Both { buys: 0, sells: 0 },
+        }
+    }
+
+    // How many places each half has.
+    fn half(&self) -> usize
+        ensures { result ≡ half_of self.now.run.now }
+    {
+        self.run.len() / 2
+    }
+
+    // Where the half of a side begins.
+    fn start(&self, direction: Direction) -> usize
+        ensures { result ≡ start_of direction self.now.run.now }
+    {
+        match direction {
+            Direction::Buy => 0,
+            Direction::Sell => self.half(),
         }
     }
 }
 
-impl<'a> Table for Queue<'a> {
-    ghost book = { λ q. stored q.halves };
+impl<'a> Store for Queue<'a> {
+    ghost stored = { λ q. stored_in q.run.now q.counts };
 
-    ghost capacity = { λ q. capacity_of q.halves };
-
-    ghost sound = { λ q. record { fits = q.fits; sorted = q.sorted; sided = q.sided; once = q.once } };
+    ghost sound = { λ q. q.kept.sound };
 
     fn clear(&mut self) {
-        self.halves.clear();
-    }
-
-    fn at(&self, direction: Direction, rank: usize) -> Option<Order> {
-        self.halves.at(direction, rank)
-    }
-
-    fn count(&self, direction: Direction) -> usize {
-        self.halves.count(direction)
+        self.counts.buys = 0;
+        self.counts.sells = 0;
     }
 
     fn places(&self) -> usize {
-        self.halves.places()
+        self.half().min(MOST)
     }
 
-    fn find(&self, number: u32) -> Option<Order> {
-        store::find(&self.halves, number)
+    fn row(&self, direction: Direction) -> &[Order] {
+        let start = self.start(direction);
+        &self.run[start..start + *self.counts.of(direction)]
     }
 
-    fn add(&mut self, order: Order) -> Result<(), No> {
-        store::add(&mut self.halves, order)
+    fn at(&self, direction: Direction, rank: usize) -> Option<Order> {
+        self.row(direction).get(rank).copied()
     }
 
-    fn set_volume(&mut self, number: u32, volume: u32) -> Result<(), No> {
-        store::set_volume(&mut self.halves, number, volume)
+    fn put(&mut self, order: Order) {
+        let direction = order.direction;
+        let start = self.start(direction);
+        let end = start + self.half();
+        let count = *self.counts.of(direction);
+        insert_into(direction, &mut self.run[start..end], count, order);
+        *self.counts.of_mut(direction) = count + 1;
     }
 
-    fn remove(&mut self, number: u32) -> Result<(), No> {
-        store::remove(&mut self.halves, number)
+    fn take_out(&mut self, place: Place) {
+        let start = self.start(place.direction);
+        let end = start + self.half();
+        let count = *self.counts.of(place.direction);
+        remove_at(&mut self.run[start..end], count, place.index);
+        *self.counts.of_mut(place.direction) = count - 1;
+    }
+
+    fn set_volume_at(&mut self, place: Place, volume: u32) {
+        let start = self.start(place.direction);
+        self.run[start + place.index].volume = volume;
     }
 }

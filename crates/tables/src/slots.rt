@@ -1,72 +1,79 @@
 // A table of 32 places for each side, in no order, which it searches.
-ghost use Rattle.std.specs.Prelude.{◌≡◌, ◌≤◌, IfOk, vec_capacity};
-ghost use Rattle.tables.specs.Meaning.{Fits, Sorted, Sided, Once, empty};
-ghost use Rattle.tables.specs.Unsorted.{meant, capacity as capacity_of};
+ghost use Rattle.std.specs.Prelude.{◌≡◌, IfOk};
+ghost use Rattle.tables.specs.Slots.{Kept, stored as stored_in, empty_slots};
 
-use crate::store;
+use crate::both::Both;
+use crate::place::Place;
+use crate::ranks::at_rank;
 use crate::store::Store;
-use crate::table::{No, Table};
 use crate::unsorted::Unsorted;
 use rules::order::{Direction, Order};
 use std::alloc::{AllocError, Global};
 
+const PLACES: usize = 32;
+
 #[derive(Drop)]
 pub struct Slots {
-    orders: Unsorted,
-    ghost buys: { capacity_of.places ≤ vec_capacity orders.buys },
-    ghost sells: { capacity_of.places ≤ vec_capacity orders.sells },
-    ghost fits: { Fits capacity_of (meant orders) },
-    ghost sorted: { Sorted (meant orders) },
-    ghost sided: { Sided (meant orders) },
-    ghost once: { Once (meant orders) },
+    inner: Unsorted,
+    ghost kept: { Kept inner },
 }
 
 impl Slots {
     // Empty slots. Their memory is reserved here, and no later call wants any.
     pub fn new(heap: Global) -> Result<Slots, AllocError>
-        ensures { IfOk result (λ s. meant s.orders ≡ empty) }
+        ensures { IfOk result (λ s. stored_in s.inner ≡ empty_slots) }
     {
-        let orders = Unsorted::new(heap)?;
-        Ok(Slots { orders })
+        let buys = Vec::with_capacity(heap, PLACES)?;
+        let sells = Vec::with_capacity(heap, PLACES)?;
+        Ok(Slots {
+            inner: Unsorted {
+                orders: Both { buys, sells },
+            },
+        })
     }
 }
 
-impl Table for Slots {
-    ghost book = { λ s. meant s.orders };
+impl Store for Slots {
+    ghost stored = { λ s. stored_in s.inner };
 
-    ghost capacity = { λ s. capacity_of };
-
-    ghost sound = { λ s. record { fits = s.fits; sorted = s.sorted; sided = s.sided; once = s.once } };
+    ghost sound = { λ s. s.kept.sound };
 
     fn clear(&mut self) {
-        self.orders.clear();
-    }
-
-    fn at(&self, direction: Direction, rank: usize) -> Option<Order> {
-        self.orders.at(direction, rank)
-    }
-
-    fn count(&self, direction: Direction) -> usize {
-        self.orders.count(direction)
+        self.inner.orders.buys.clear();
+        self.inner.orders.sells.clear();
     }
 
     fn places(&self) -> usize {
-        self.orders.places()
+        PLACES
     }
 
-    fn find(&self, number: u32) -> Option<Order> {
-        store::find(&self.orders, number)
+    fn row(&self, direction: Direction) -> &[Order] {
+        self.inner.orders.of(direction).as_slice()
     }
 
-    fn add(&mut self, order: Order) -> Result<(), No> {
-        store::add(&mut self.orders, order)
+    fn at(&self, direction: Direction, rank: usize) -> Option<Order> {
+        at_rank(direction, self.row(direction), rank)
     }
 
-    fn set_volume(&mut self, number: u32, volume: u32) -> Result<(), No> {
-        store::set_volume(&mut self.orders, number, volume)
+    // Behind the others of its side.
+    fn put(&mut self, order: Order) {
+        self.inner
+            .orders
+            .of_mut(order.direction)
+            .push_reserved(order)
     }
 
-    fn remove(&mut self, number: u32) -> Result<(), No> {
-        store::remove(&mut self.orders, number)
+    fn take_out(&mut self, place: Place) {
+        let _ = self
+            .inner
+            .orders
+            .of_mut(place.direction)
+            .remove(place.index);
+    }
+
+    fn set_volume_at(&mut self, place: Place, volume: u32) {
+        if let Some(order) = self.inner.lend(place) {
+            order.volume = volume;
+        }
     }
 }

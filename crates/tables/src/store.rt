@@ -1,134 +1,121 @@
-// What stands behind a table: the orders of both sides, in rank order or in none. The calls that look for a number are
-// written here, once for every table.
-ghost use Rattle.std.specs.Prelude.{◌≡◌, ℕ, ◌<◌, false, length, Some};
+// What stands behind a table: rows of orders, in rank order or in none. What every table does alike is written here.
+ghost use Rattle.std.specs.Prelude.{◌≡◌, ◌<◌, true, length};
 ghost use Rattle.std.specs.List.{slice_get};
-ghost use Rattle.rules.specs.Book.{Book, side};
-ghost use Rattle.tables.specs.Listing.{without, set_volume as set_volume_of};
-ghost use Rattle.tables.specs.Meaning.{Capacity, empty, lookup, held, takes, sets_volume, said, inserted, added, volume_set, removed, each_side};
-ghost use Rattle.tables.specs.Stored.{Stands, Placed};
+ghost use Rattle.tables.specs.Meaning.{Contents, Sound, listed, cleared, takes as takes_order, ordered, put_in};
+ghost use Rattle.tables.specs.Stored.{Placed, PlacedOn, without_at, with_volume_at};
 
 use crate::place::Place;
-use crate::table::No;
+use crate::rows::index_of;
+use crate::table::{No, Table};
 use rules::order::{Direction, Order};
 
 pub trait Store {
-    // the book that it means
-    ghost book: { Self → Book };
-
-    // the orders as they stand
-    ghost rows: { Self → Book };
-
-    ghost capacity: { Self → Capacity };
-
-    // what holds from call to call
-    ghost kept: { Self → Type 0 };
+    // what it has room for, and its orders as they stand, in rank order or in none
+    ghost stored: { Self → Contents };
 
     fn clear(&mut self)
-        requires { kept self.old }
-        ensures lists { book self.new ≡ empty }
-        ensures room { capacity self.new ≡ capacity self.old }
-        ensures kept { kept self.new };
-
-    // The order at a rank of a side.
-    fn at(&self, direction: Direction, rank: usize) -> Option<Order>
-        requires { kept self.now }
-        ensures { result ≡ slice_get (side direction (book self.now)) rank };
+        ensures { stored self.new ≡ cleared (stored self.old) };
 
     // How many orders a side has room for.
     fn places(&self) -> usize
-        ensures { result ≡ (capacity self.now).places };
+        ensures { result ≡ (stored self.now).capacity.places };
 
-    fn count(&self, direction: Direction) -> usize
-        requires { kept self.now }
-        ensures { result ≡ length (side direction (book self.now)) };
+    // The orders of a side as they stand.
+    fn row(&self, direction: Direction) -> &[Order]
+        ensures { result.now ≡ listed direction (stored self.now) };
 
-    // Where the order with a number stands.
-    fn place(&self, number: u32) -> Result<Place, No>
-        requires { kept self.now }
-        ensures { Placed number (book self.now) (rows self.now) result };
+    // The order at a rank of a side.
+    fn at(&self, direction: Direction, rank: usize) -> Option<Order>
+        ensures { result ≡ slice_get (listed direction (ordered (stored self.now))) rank };
 
-    // The order at a place.
-    fn order(&self, place: Place) -> Order
-        requires kept { kept self.now }
-        requires within { place.index < length (side place.direction (rows self.now)) }
-        ensures { (n : ℕ) → Stands n (side place.direction (rows self.now)) place.index → Some result ≡ lookup n (book self.now) };
-
-    // Puts in an order that the table takes.
+    // Puts in an order that is taken, anywhere that keeps its rank.
     fn put(&mut self, order: Order)
-        requires kept { kept self.old }
-        requires room { length (side order.direction (book self.old)) < (capacity self.old).places }
-        requires new { held order.number (book self.old) ≡ false }
-        ensures lists { book self.new ≡ inserted order (book self.old) }
-        ensures room { capacity self.new ≡ capacity self.old }
-        ensures kept { kept self.new };
+        requires { takes_order (stored self.old) order ≡ true }
+        ensures { ordered (stored self.new) ≡ put_in order (ordered (stored self.old)) };
 
     // Takes out the order at a place.
     fn take_out(&mut self, place: Place)
-        requires kept { kept self.old }
-        requires within { place.index < length (side place.direction (rows self.old)) }
-        ensures lists { (n : ℕ) → Stands n (side place.direction (rows self.old)) place.index → book self.new ≡ each_side (without n) (book self.old) }
-        ensures room { capacity self.new ≡ capacity self.old }
-        ensures kept { kept self.new };
+        requires { place.index < length (listed place.direction (stored self.old)) }
+        ensures { stored self.new ≡ without_at place (stored self.old) };
 
     // Gives the order at a place another volume.
     fn set_volume_at(&mut self, place: Place, volume: u32)
-        requires kept { kept self.old }
-        requires within { place.index < length (side place.direction (rows self.old)) }
-        ensures lists { (n : ℕ) → Stands n (side place.direction (rows self.old)) place.index → book self.new ≡ each_side (set_volume_of n volume) (book self.old) }
-        ensures room { capacity self.new ≡ capacity self.old }
-        ensures kept { kept self.new };
+        requires { place.index < length (listed place.direction (stored self.old)) }
+        ensures { stored self.new ≡ with_volume_at place volume (stored self.old) };
+
+    ghost sound: { (s : Self) → Sound (ordered (stored s)) };
 }
 
-pub fn find<S: Store>(store: &S, number: u32) -> Option<Order>
-    requires { S.Store.kept store.now }
-    ensures { result ≡ lookup number (S.Store.book store.now) }
+// Where the order with a number stands on a side.
+fn place_on<S: Store>(store: &S, direction: Direction, number: u32) -> Option<Place>
+    ensures { PlacedOn direction number (S.Store.stored store.now) result }
 {
-    match store.place(number) {
-        Ok(place) => Some(store.order(place)),
-        Err(No) => None,
-    }
+    let index = index_of(store.row(direction), number)?;
+    Some(Place { direction, index })
 }
 
-pub fn add<S: Store>(store: &mut S, order: Order) -> Result<(), No>
-    requires { S.Store.kept store.old }
-    ensures answer { result ≡ said (takes (S.Store.capacity store.old) (S.Store.book store.old) order) }
-    ensures lists { S.Store.book store.new ≡ added (S.Store.capacity store.old) (S.Store.book store.old) order }
-    ensures room { S.Store.capacity store.new ≡ S.Store.capacity store.old }
-    ensures kept { S.Store.kept store.new }
+// Where the order with a number stands, on either side.
+fn place_of<S: Store>(store: &S, number: u32) -> Option<Place>
+    ensures { Placed number (S.Store.stored store.now) result }
 {
-    if store.count(order.direction) >= store.places() {
-        return Err(No);
-    }
-    if find(store, order.number).is_some() {
-        return Err(No);
-    }
-    store.put(order);
-    Ok(())
+    place_on(store, Direction::Buy, number).or_else(|| place_on(store, Direction::Sell, number))
 }
 
-pub fn set_volume<S: Store>(store: &mut S, number: u32, volume: u32) -> Result<(), No>
-    requires { S.Store.kept store.old }
-    ensures answer { result ≡ said (sets_volume number volume (S.Store.book store.old)) }
-    ensures lists { S.Store.book store.new ≡ volume_set number volume (S.Store.book store.old) }
-    ensures room { S.Store.capacity store.new ≡ S.Store.capacity store.old }
-    ensures kept { S.Store.kept store.new }
+// Whether an order is taken.
+fn takes<S: Store>(store: &S, order: &Order) -> bool
+    ensures stored { result ≡ takes_order (S.Store.stored store.now) order.now }
+    ensures meant { result ≡ takes_order (ordered (S.Store.stored store.now)) order.now }
 {
-    if volume == 0 {
-        return Err(No);
-    }
-    let place = store.place(number)?;
-    store.set_volume_at(place, volume);
-    Ok(())
+    store.row(order.direction).len() < store.places() && place_of(store, order.number).is_none()
 }
 
-pub fn remove<S: Store>(store: &mut S, number: u32) -> Result<(), No>
-    requires { S.Store.kept store.old }
-    ensures answer { result ≡ said (held number (S.Store.book store.old)) }
-    ensures lists { S.Store.book store.new ≡ removed number (S.Store.book store.old) }
-    ensures room { S.Store.capacity store.new ≡ S.Store.capacity store.old }
-    ensures kept { S.Store.kept store.new }
-{
-    let place = store.place(number)?;
-    store.take_out(place);
-    Ok(())
+// Every store is a table. Clear, at and places are the store's own, handed on.
+impl<S: Store> Table for S {
+    ghost contents = { λ s. ordered (S.Store.stored s) };
+
+    ghost sound = { S.Store.sound };
+
+    fn clear(&mut self) {
+        Store::clear(self)
+    }
+
+    fn at(&self, direction: Direction, rank: usize) -> Option<Order> {
+        Store::at(self, direction, rank)
+    }
+
+    fn count(&self, direction: Direction) -> usize {
+        self.row(direction).len()
+    }
+
+    fn places(&self) -> usize {
+        Store::places(self)
+    }
+
+    fn find(&self, number: u32) -> Option<Order> {
+        let place = place_of(self, number)?;
+        Some(self.row(place.direction)[place.index])
+    }
+
+    fn add(&mut self, order: Order) -> Result<(), No> {
+        if !takes(self, &order) {
+            return Err(No);
+        }
+        self.put(order);
+        Ok(())
+    }
+
+    fn set_volume(&mut self, number: u32, volume: u32) -> Result<(), No> {
+        if volume == 0 {
+            return Err(No);
+        }
+        let place = place_of(self, number).ok_or(No)?;
+        self.set_volume_at(place, volume);
+        Ok(())
+    }
+
+    fn remove(&mut self, number: u32) -> Result<(), No> {
+        let place = place_of(self, number).ok_or(No)?;
+        self.take_out(place);
+        Ok(())
+    }
 }

@@ -1,58 +1,53 @@
 // A table of orders, by its meaning: the buys and the sells that it holds, each in rank order, and its places.
 ghost use Rattle.std.specs.Prelude.{◌≡◌, length};
 ghost use Rattle.std.specs.List.{slice_get};
-ghost use Rattle.rules.specs.Book.{Book, side};
-ghost use Rattle.tables.specs.Meaning.{Capacity, Sound, empty, lookup, held, takes, sets_volume, said, added, volume_set, removed};
+ghost use Rattle.tables.specs.Meaning.{Contents, Sound, listed, cleared, lookup, takes, sets_volume, said, held, added, volume_set, removed};
 
 use rules::order::{Direction, Order};
 
 // A table's refusal, which says nothing more.
-#[derive(Clone, Copy)]
+#[derive(Clone, Copy, Debug, PartialEq, Eq)]
 pub struct No;
 
 pub trait Table {
-    ghost book: { Self → Book };
-
-    ghost capacity: { Self → Capacity };
-
-    ghost sound: { (t : Self) → Sound (capacity t) (book t) };
+    // what it has room for, and the orders that it holds
+    ghost contents: { Self → Contents };
 
     fn clear(&mut self)
-        ensures lists { book self.new ≡ empty }
-        ensures room { capacity self.new ≡ capacity self.old };
+        ensures { contents self.new ≡ cleared (contents self.old) };
 
     // The order at a rank of a side, from 0.
     fn at(&self, direction: Direction, rank: usize) -> Option<Order>
-        ensures { result ≡ slice_get (side direction (book self.now)) rank };
+        ensures { result ≡ slice_get (listed direction (contents self.now)) rank };
 
     fn count(&self, direction: Direction) -> usize
-        ensures { result ≡ length (side direction (book self.now)) };
+        ensures { result ≡ length (listed direction (contents self.now)) };
 
     // How many orders a side has room for.
     fn places(&self) -> usize
-        ensures { result ≡ (capacity self.now).places };
+        ensures { result ≡ (contents self.now).capacity.places };
 
     // The order with a number, on either side.
     fn find(&self, number: u32) -> Option<Order>
-        ensures { result ≡ lookup number (book self.now) };
+        ensures { result ≡ lookup number (contents self.now).book };
 
     fn add(&mut self, order: Order) -> Result<(), No>
-        ensures answer { result ≡ said (takes (capacity self.old) (book self.old) order) }
-        ensures lists { book self.new ≡ added (capacity self.old) (book self.old) order }
-        ensures room { capacity self.new ≡ capacity self.old };
+        ensures answer { result ≡ said (takes (contents self.old) order) }
+        ensures after { contents self.new ≡ added order (contents self.old) };
 
     fn set_volume(&mut self, number: u32, volume: u32) -> Result<(), No>
-        ensures answer { result ≡ said (sets_volume number volume (book self.old)) }
-        ensures lists { book self.new ≡ volume_set number volume (book self.old) }
-        ensures room { capacity self.new ≡ capacity self.old };
+        ensures answer { result ≡ said (sets_volume number volume (contents self.old)) }
+        ensures after { contents self.new ≡ volume_set number volume (contents self.old) };
 
     fn remove(&mut self, number: u32) -> Result<(), No>
-        ensures answer { result ≡ said (held number (book self.old)) }
-        ensures lists { book self.new ≡ removed number (book self.old) }
-        ensures room { capacity self.new ≡ capacity self.old };
+        ensures answer { result ≡ said (held number (contents self.old).book) }
+        ensures after { contents self.new ≡ removed number (contents self.old) };
+
+    // what every table keeps
+    ghost sound: { (t : Self) → Sound (contents t) };
 }
 
-// What every table keeps, at hand where a proof about any table wants it.
+// The same at hand where a proof about any table wants it.
 pub fn keeps<T: Table>(table: &T)
-    ensures { Sound (T.Table.capacity table.now) (T.Table.book table.now) }
+    ensures { Sound (T.Table.contents table.now) }
 {}

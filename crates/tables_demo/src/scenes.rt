@@ -18,13 +18,9 @@ fn at(direction: Direction, rank: usize) -> Call {
     Call::At { direction, rank }
 }
 
-const COUNT_BUYS: Call = Call::Count {
-    direction: Direction::Buy,
-};
-
-const COUNT_SELLS: Call = Call::Count {
-    direction: Direction::Sell,
-};
+fn count(direction: Direction) -> Call {
+    Call::Count { direction }
+}
 
 // Price before arrival before number, on both sides.
 pub fn ranks() -> [Call; 21] {
@@ -47,8 +43,8 @@ pub fn ranks() -> [Call; 21] {
         at(Direction::Sell, 1),
         at(Direction::Sell, 2),
         at(Direction::Sell, 3),
-        COUNT_BUYS,
-        COUNT_SELLS,
+        count(Direction::Buy),
+        count(Direction::Sell),
         Call::Places,
     ]
 }
@@ -104,8 +100,8 @@ pub fn volumes() -> [Call; 18] {
         },
         Call::Find { number: 0 },
         Call::Clear,
-        COUNT_BUYS,
-        COUNT_SELLS,
+        count(Direction::Buy),
+        count(Direction::Sell),
         at(Direction::Buy, 0),
     ]
 }
@@ -113,7 +109,7 @@ pub fn volumes() -> [Call; 18] {
 // What is asked of a side that holds 32 buys, at 1001 to 1032.
 fn of_a_full_side() -> [Call; 13] {
     [
-        COUNT_BUYS,
+        count(Direction::Buy),
         add(33, Direction::Buy, 1000, 10),
         at(Direction::Buy, 31),
         at(Direction::Buy, 0),
@@ -124,21 +120,17 @@ fn of_a_full_side() -> [Call; 13] {
         at(Direction::Buy, 31),
         add(34, Direction::Buy, 1016, 70),
         at(Direction::Buy, 16),
-        COUNT_BUYS,
-        COUNT_SELLS,
+        count(Direction::Buy),
+        count(Direction::Sell),
     ]
 }
 
 // 32 buys, which fill their side, and then the questions.
 pub fn full(heap: Global) -> Result<Vec<Call>, AllocError> {
-    let mut calls = Vec::new(heap);
-    for n in 1..33u32 {
-        calls.push(add(n, Direction::Buy, 1000 + n, 10))?;
-    }
-    for call in of_a_full_side() {
-        calls.push(call)?;
-    }
-    Ok(calls)
+    (1..33u32)
+        .map(|n| add(n, Direction::Buy, 1000 + n, 10))
+        .chain(of_a_full_side())
+        .collect(heap)
 }
 
 // The places of a queue, and three sells for one side of it.

@@ -1,24 +1,14 @@
-// Calls and their answers as text.
-use rules::order::{Direction, Order};
+// Calls and their answers as text, in this program's own words. Each is a struct round a reference, since a program
+// prints a library's type only through a type of its own.
+use rules::order::Order;
 use std::fmt;
 use tables::calls::{Call, Reply};
-
-#[derive(Drop)]
-pub struct Side(pub Direction);
-
-impl fmt::Display for Side {
-    fn fmt<W: fmt::Write>(&self, f: &mut fmt::Formatter<W>) -> fmt::Result {
-        match self.0 {
-            Direction::Buy => f.write_str("buy"),
-            Direction::Sell => f.write_str("sell"),
-        }
-    }
-}
+use tables::table::No;
 
 #[derive(Drop)]
 pub struct Line<'a>(pub &'a Order);
 
-impl<'a> fmt::Display for Line<'a> {
+impl fmt::Display for Line<'_> {
     fn fmt<W: fmt::Write>(&self, f: &mut fmt::Formatter<W>) -> fmt::Result {
         let Order {
             number,
@@ -28,20 +18,19 @@ impl<'a> fmt::Display for Line<'a> {
             arrival,
             ..
         } = self.0;
-        let side = Side(*direction);
-        write!(f, "{number} {side} {price}/{volume} arrival {arrival}")
+        write!(f, "{number} {direction} {price}/{volume} arrival {arrival}")
     }
 }
 
 #[derive(Drop)]
 pub struct Asked<'a>(pub &'a Call);
 
-impl<'a> fmt::Display for Asked<'a> {
+impl fmt::Display for Asked<'_> {
     fn fmt<W: fmt::Write>(&self, f: &mut fmt::Formatter<W>) -> fmt::Result {
         match self.0 {
             Call::Clear => f.write_str("clear"),
-            Call::At { direction, rank } => write!(f, "at {} {rank}", Side(*direction)),
-            Call::Count { direction } => write!(f, "count {}", Side(*direction)),
+            Call::At { direction, rank } => write!(f, "at {direction} {rank}"),
+            Call::Count { direction } => write!(f, "count {direction}"),
             Call::Places => f.write_str("places"),
             Call::Find { number } => write!(f, "find {number}"),
             Call::Add { order } => write!(f, "add {}", Line(order)),
@@ -54,11 +43,11 @@ impl<'a> fmt::Display for Asked<'a> {
 #[derive(Drop)]
 pub struct Answered<'a>(pub &'a Reply);
 
-impl<'a> fmt::Display for Answered<'a> {
+impl fmt::Display for Answered<'_> {
     fn fmt<W: fmt::Write>(&self, f: &mut fmt::Formatter<W>) -> fmt::Result {
         match self.0 {
-            Reply::Done => f.write_str("done"),
-            Reply::Refused => f.write_str("refused"),
+            Reply::Answered(Ok(())) => f.write_str("done"),
+            Reply::Answered(Err(No)) => f.write_str("refused"),
             Reply::Counted(n) => write!(f, "{n}"),
             Reply::Found(Some(order)) => write!(f, "{}", Line(order)),
             Reply::Found(None) => f.write_str("nothing"),

@@ -1,6 +1,0 @@
-use Rattle.std.proofs.Common.{◌≤◌}
-use Rattle.tables.proofs.Shifts.{Opened}
-use Rattle.tables.proofs.rows.insert_at.Given as goal
-
-abbrev pub invariant-loop-i : goal.invariant-loop-i
-invariant-loop-i l = (l.at ≤ l.i) × Opened l.initial.row l.row l.count l.i
