@@ -1,0 +1,688 @@
+-- Call by call: withdraw, enter and alter.
+use Rattle.std.proofs.Common.{◌&&◌, is_some, ◌≡◌, ℕ, suc, ◌-◌, ◌<◌, ◌≤◌, Bool, true, false, cond, not, ◌||◌, eqb, ltb, leb, List, [], ◌∷◌, ◌++◌, length, Some, None, Option, sym, refl, ap, ◌∙◌, subst, inl, inr, ⊎_elim, arith}
+use Rattle.std.proofs.lemmas.Bool.{cases_Bool, cond_both, cond-false, cond-true, cases_eq, eqb-true, eqb-false, ne_eqb, eq-eqb, leb-false, and_parts, and_cases, not-false, both_ways}
+use Rattle.std.proofs.lemmas.Bool.Decides.{nat_tests}
+use Rattle.rules.specs.declared.order.Direction.{Direction}
+use Rattle.rules.specs.declared.order.Direction.TheVariants.{Buy, Sell}
+use Rattle.book.specs.declared.stage.Stage.{Stage}
+use Rattle.book.specs.declared.stage.Stage.TheVariants.{PreOpen, Open, PreClose, Closed}
+use Rattle.rules.specs.declared.order.Order.{Order}
+use Rattle.rules.specs.declared.terms.Terms.{Terms}
+use Rattle.book.specs.declared.slip.Slip.{Slip}
+use Rattle.book.specs.declared.slip.Slip.TheVariants.{Lapse}
+use Rattle.book.specs.declared.call.Call.{Call}
+use Rattle.book.specs.declared.call.Call.TheVariants.{Enter, Alter, Withdraw}
+use Rattle.book.specs.declared.answer.Answer.{Answer}
+use Rattle.book.specs.declared.answer.Answer.TheVariants.{Entered, Altered, Withdrawn}
+use Rattle.book.proofs.Ranks.{InRank, without_in, insert_in, in_insert, none_numbered}
+use Rattle.book.proofs.Members.{listing, Exactly, Member}
+use Rattle.rules.specs.Rank.{before}
+use Rattle.rules.specs.Side.{opposite, willing}
+use Rattle.tables.specs.Listing.{insert, with_volume, without}
+use Rattle.book.specs.Ledger.{Ledger, Live, put, balance, opening, renews, renew, keep, rewritten, alter_account, feed, post_all, Along, traded}
+use Rattle.rules.specs.Book.{Book, side}
+use Rattle.rules.specs.Entry.{member_row, volume_row, price_row}
+use Rattle.tables.specs.Meaning.{Contents, held, lookup, listed, takes, added, removed, holding}
+use Rattle.tables.proofs.Numbers.{without_none}
+use Rattle.tables.proofs.Ranking.{length-insert}
+use Rattle.book.specs.Day.{Day, limit_price, entering, moves, alter_tally, altered, Outcome, refused_by, done, is_open, is_closed, by_row, limit_row, refuse, owned, withdraw, enter, alter, full, short_run, step, Reply, arrive, queue, placed, dealt, Swept, sweep}
+use Rattle.book.specs.Law.{Mode, continuous, mode, dealing, price_of, fed, due, SlipRight, InTurn, FixingRight, Entering, Settled, Shown, Upheld}
+use Rattle.book.proofs.Ranks.{InRank, without_in, insert_in, in_insert, none_numbered}
+use Rattle.book.proofs.Accounts.{put_same, put_other, live_same, Off, Dead, Besides, besides_without, besides_none, besides_close, besides_insert, down, down_off, down_at, down_live, down_against, not_both}
+use Rattle.book.proofs.Trades.{Listed, SweptRight, sweep_right, pos, stand}
+use Rattle.book.proofs.Strike.{traded_append}
+use Rattle.book.proofs.Sided.{sided, table_of, side_against, sided_same, fits_sided, NoneHas, takes_sided, added_sided, dealt_table, removed_sided, times_some, length-without}
+use Rattle.book.proofs.Kept.{Opened, AllOpened, Inv, day_at, Kept, Good, post_stage, post_tally, post_append, along_append, opened_put, opened_lower, opened_more, opened_post, Apart, apart_of, shown_of, unsettled, is_open_true, settled_open, found_live, limit_of, Limit, uncrossed_of}
+
+-- Withdraw ----------------------------------------------------------------------------------------------------------------
+
+-- an order that gives its whole balance leaves its side
+pub gone :
+    (d : Direction) (L : Ledger) (o : Order) (xs : List Order) →
+    Live d L o →
+    Listed d L xs →
+    Listed d (down o.number o.volume L) (without o.number xs)
+gone d L o xs l ex =
+    besides_close o.number L (down o.number o.volume L) (down_off o.number o.volume L) d
+    (without o.number xs) (besides_without o.number d L xs ex)
+    (λ x k q.
+    let same : x.volume ≡ o.volume - o.volume = ap (λ (z : Order). z.volume) (down_live d d o.volume L o x l k q) in
+    let b : 0 < x.volume = k.balance in
+    omega arith)
+
+-- an order of one side is not on the other
+pub one_side : (L : Ledger) (d : Direction) (o : Order) → Live d L o → Dead o.number (opposite d) L
+one_side L d o l x k q =
+    not_both d (sym l.side ∙ (sym (ap (λ (z : Order). z.direction) (live_same (opposite d) d L x o k l q)) ∙ k.side))
+
+module _ (t : Terms) (L : Ledger) (tab : Contents) (inv : Inv t L tab) where
+  pub not_against : (d : Direction) (o : Order) → Live d L o → NoneHas o.number (side (opposite d) tab.book)
+  not_against d o l x m q = one_side L d o l x ((listing (inv.shown.sides (opposite d))).sound x m) q
+
+  pub removed_is :
+      (o : Order) → Live o.direction L o → held o.number tab.book ≡ true →
+      removed o.number tab ≡ table_of tab o.direction (without o.number (side o.direction tab.book)) (side (opposite o.direction) tab.book)
+  removed_is o l h =
+      removed_sided tab o.direction o.number h
+      (without_none o.number (side (opposite o.direction) tab.book)
+      (none_numbered o.number (side (opposite o.direction) tab.book) (not_against o.direction o l)))
+
+  withdraw_kept :
+      (member : ℕ) (o : Order) →
+      Live o.direction L o →
+      held o.number tab.book ≡ true →
+      Good t L (Withdraw member o.number) (withdraw (day_at L tab) o)
+  withdraw_kept member o l h =
+      let d : Direction = o.direction in
+      let n : ℕ = o.number in
+      let M : Ledger = down n o.volume L in
+      let old : List Order = side d tab.book in
+      let own : List Order = without n old in
+      let against : List Order = side (opposite d) tab.book in
+      subst
+      (λ (T : Contents). Kept t L (Withdraw member n) (Withdrawn o.volume 0) M [] (record { stage = L.stage; tally = L.tally; table = T }))
+      (sym (removed_is o l h))
+      (record {
+        upheld = record {
+          each = tt;
+          fixing = tt;
+          answer = sym (ap (λ a. Withdrawn (balance a) 0) l.account);
+          shown =
+              shown_of M d own against (gone d L o old l (listing (inv.shown.sides d)))
+              (down_against d o.volume L o against l (listing (inv.shown.sides (opposite d))))
+              (λ k x y m i. apart_of L tab.book inv.shown k d x y (without_in n old x m).0 i)
+              (λ k x m. limit_of L tab.book inv.shown k d x (without_in n old x m).0)
+              (λ k. limit_of L tab.book inv.shown k (opposite d));
+        };
+        opened = opened_lower t L.tally L.accounts inv.opened n o.volume;
+        stage = refl;
+        tally = refl;
+        fits = fits_sided tab d own against (omega (arith, length-without n old, inv.fits d)) (inv.fits (opposite d));
+      })
+
+  -- the tests of a call, one by one
+  pub tested : (c : Call) (b : Bool) (n : ℕ) (out : Outcome) → (b ≡ false → Good t L c out) → Good t L c (refuse b n out)
+  tested c b n out h = cond_both _ _ _ (Good t L c) (λ _. tt) h
+
+  pub passed : (c : Call) (row : Option ℕ) (out : Outcome) → (row ≡ None → Good t L c out) → Good t L c (by_row row out)
+  passed c None out h = h refl
+  passed c (Some n) out h = tt
+
+  pub owned_good :
+      (member n : ℕ) (c : Call) (go : Order → Outcome) →
+      ((o : Order) → Live o.direction L o → o.number ≡ n → held o.number tab.book ≡ true → Good t L c (go o)) →
+      Good t L c (owned member (lookup n tab.book) go)
+  owned_good member n c go h = on (lookup n tab.book) refl
+    where
+      on : (r : Option Order) → lookup n tab.book ≡ r → Good t L c (owned member r go)
+      on None e = tt
+      on (Some o) e =
+          let f = found_live L tab.book inv.shown n o e in
+          let there : held o.number tab.book ≡ true = ap (λ k. held k tab.book) f.1 ∙ ap is_some e in
+          tested c (not (eqb member o.member)) 8 (go o) (λ _. h o f.0 f.1 there)
+
+  pub withdraw_good : (member n room : ℕ) → Good t L (Withdraw member n) (step t (day_at L tab) (Withdraw member n) room)
+  withdraw_good member n room =
+      tested (Withdraw member n) (is_closed L.stage) 3 _ (λ _.
+      passed (Withdraw member n) (member_row member) _ (λ _.
+      owned_good member n (Withdraw member n) (withdraw (day_at L tab))
+      (λ o l e h. subst (λ i. Good t L (Withdraw member i) (withdraw (day_at L tab) o)) e (withdraw_kept member o l h))))
+
+-- An order that enters in Open ---------------------------------------------------------------------------------------------
+
+-- like Good, for a ledger M after the call
+abbrev pub GoodAt : Terms → Ledger → Call → Ledger → Outcome → Type 0
+GoodAt t L c M (refused_by n) = Unit {0}
+GoodAt t L c M (done day a slips) = Kept t L c a M slips day
+
+pub good_from :
+    (t : Terms) (L : Ledger) (c : Call) (M : Ledger) → ((a : Answer) → M ≡ feed t (fed c a) L) →
+    (out : Outcome) → GoodAt t L c M out → Good t L c out
+good_from t L c M e (refused_by n) h = tt
+good_from t L c M e (done day a slips) h = subst (λ N. Kept t L c a N slips day) (e a) h
+
+-- take an order out again
+pub uninsert :
+    (d : Direction) (L : Ledger) (o : Order) (own : List Order) →
+    InRank d own →
+    ((x : Order) → Member x own → x.number ≡ o.number → ⊥) →
+    Listed d L (insert (before d) o own) →
+    Exactly d (Besides o.number d L) own
+uninsert d L o own s h ex =
+    record {
+      sorted = s;
+      sound = λ x m. (ex.sound x (in_insert d o own x (inr m)), h x m);
+      complete =
+          λ x b.
+          ⊎_elim (λ e. absurd (b.1 (ap (λ (z : Order). z.number) e))) (λ m. m)
+          (insert_in d o own x (ex.complete x b.0));
+    }
+
+-- a reply is the answer that is due
+abbrev pub Due : Ledger → Call → Ledger → ℕ → Reply → Type 0
+Due L c M n reply =
+    (m : Mode) (slips : List Slip) (sum held : ℕ) → sum ≡ traded slips → held ≡ balance ((post_all slips M).accounts n) →
+    reply sum held (length slips) ≡ due c m L slips (post_all slips M)
+
+module _ (t : Terms) (L : Ledger) (c : Call) (M : Ledger) (tab : Contents) (e : Order) (own opp : List Order)
+    (same : M.stage ≡ L.stage) (dealing_on : (a : Answer) → mode L.stage c (price_of a) ≡ continuous)
+    (last : Entering M e) (opened : AllOpened t M.tally M.accounts)
+    (sorted : InRank e.direction own) (new : NoneHas e.number own)
+    (clear : (x y : Order) → Member x own → Member y opp → Apart e.direction x y)
+    (own-limit : Limit own) (opp-limit : Limit opp)
+    (room : length own < tab.capacity.places) (opp-fits : length opp ≤ tab.capacity.places)
+    (reply : Reply) (owed : Due L c M e.number reply) where
+  abbrev d : Direction
+  d = e.direction
+
+  -- the session after the call, with these two lists
+  abbrev left_with : List Order → List Order → Day
+  left_with xs ys = record { stage = L.stage; tally = M.tally; table = table_of tab e.direction xs ys }
+
+  pub upheld_as :
+      (a : Answer) (slips : List Slip) (b : Book) → Upheld t L c a continuous M slips b →
+      Upheld t L c a (mode L.stage c (price_of a)) M slips b
+  upheld_as a slips b = subst (λ m. Upheld t L c a m M slips b) (sym (dealing_on a))
+
+  module _ (s : Swept) (sw : SweptRight d e own M opp e.volume s) where
+    -- what is left of the other side would not trade with the own side
+    own_apart : (x y : Order) → Member x own → Member y s.rest → Apart d x y
+    own_apart x y m n =
+        let k = sw.kept y n in
+        subst (λ p. willing (opposite d) p x.price ≡ false) k.2 (clear x k.0 m k.1)
+
+    rest_limit : Limit s.rest
+    rest_limit y n = let k = sw.kept y n in sym k.3 ∙ opp-limit k.0 k.1
+
+    e_apart : 0 < s.left → (x y : Order) → Member x (insert (before d) (with_volume s.left e) own) → Member y s.rest → Apart d x y
+    e_apart some x y i n =
+        ⊎_elim (λ q. subst (λ (w : Order). Apart d w y) (sym q) (sw.apart some y n))
+        (λ k. own_apart x y k n) (insert_in d (with_volume s.left e) own x i)
+
+    stand_apart : (x y : Order) → Member x (stand d e s.left own) → Member y s.rest → Apart d x y
+    stand_apart x y m n =
+        cond_both _ _ _ (λ l. Member x l → Apart d x y)
+        (λ _ i. own_apart x y i n)
+        (λ z i. e_apart (pos s.left (eqb-false s.left 0 z)) x y i n) m
+
+    stand_limit : e.market ≡ false → Limit (stand d e s.left own)
+    stand_limit h x m =
+        cond_both _ _ _ (λ l. Member x l → x.market ≡ false)
+        (λ _ i. own-limit x i)
+        (λ _ i.
+        ⊎_elim (λ q. ap (λ (z : Order). z.market) q ∙ h) (λ k. own-limit x k) (insert_in d (with_volume s.left e) own x i)) m
+
+    sum_left : e.volume - s.left ≡ traded s.slips
+    sum_left = omega (arith, sw.sum)
+
+    rest_fits : length s.rest ≤ tab.capacity.places
+    rest_fits = omega (arith, sw.short, opp-fits)
+
+    stand_fits : length (stand d e s.left own) ≤ tab.capacity.places
+    stand_fits =
+        cond_both (eqb s.left 0) own (insert (before d) (with_volume s.left e) own) (λ l. length l ≤ tab.capacity.places)
+        (λ _. omega (arith, room))
+        (λ _. omega (arith, room, length-insert (before d) (with_volume s.left e) own))
+
+    -- the entering order's number is on neither side
+    rest_new : eqb s.left 0 ≡ false → NoneHas e.number s.rest
+    rest_new z y m q =
+        let K : Ledger = post_all s.slips M in
+        let o : Order = with_volume s.left e in
+        let le : Listed d K (insert (before d) o own) =
+        subst (Listed d K) (cond-false (eqb s.left 0) own (insert (before d) o own) z) sw.own_side
+        in
+        one_side K d o (le.sound o (in_insert d o own o (inl refl))) y (sw.against.sound y m) q
+
+    -- the table with what is left of the entering order
+    placed_is : placed e s.left (dealt e.direction s.rest (table_of tab e.direction own opp)) ≡ table_of tab e.direction (stand d e s.left own) s.rest
+    placed_is =
+        ap (placed e s.left) (dealt_table tab e.direction own opp s.rest) ∙
+        ⊎_elim
+        (λ z.
+        cond-true (eqb s.left 0) (table_of tab e.direction own s.rest)
+        (added (with_volume s.left e) (table_of tab e.direction own s.rest)) z ∙
+        ap (λ xs. table_of tab e.direction xs s.rest)
+        (sym (cond-true (eqb s.left 0) own (insert (before d) (with_volume s.left e) own) z)))
+        (λ z.
+        cond-false (eqb s.left 0) (table_of tab e.direction own s.rest)
+        (added (with_volume s.left e) (table_of tab e.direction own s.rest)) z ∙
+        (added_sided tab (with_volume s.left e) own s.rest
+        (takes_sided tab (with_volume s.left e) own s.rest room new (rest_new z)) ∙
+        ap (λ xs. table_of tab e.direction xs s.rest)
+        (sym (cond-false (eqb s.left 0) own (insert (before d) (with_volume s.left e) own) z))))
+        (cases_Bool (eqb s.left 0))
+
+    limit_kept :
+        e.market ≡ false →
+        Kept t L c (reply (e.volume - s.left) s.left (length s.slips)) M s.slips (left_with (stand d e s.left own) s.rest)
+    limit_kept h =
+        record {
+          upheld =
+              upheld_as (reply (e.volume - s.left) s.left (length s.slips)) s.slips _
+              (record {
+                each = sw.along;
+                fixing = tt;
+                answer =
+                    owed continuous s.slips (e.volume - s.left) s.left sum_left (sym (ap balance sw.account));
+                shown =
+                    shown_of (post_all s.slips M) d (stand d e s.left own) s.rest sw.own_side sw.against
+                    (λ _. stand_apart) (λ _. stand_limit h) (λ _. rest_limit);
+              });
+          opened = opened_post t s.slips M opened;
+          stage = sym (post_stage s.slips M ∙ same);
+          tally = sym (post_tally s.slips M);
+          fits = fits_sided tab d (stand d e s.left own) s.rest stand_fits rest_fits;
+        }
+
+    more_kept :
+        (ys : List Slip) →
+        traded ys ≡ 0 →
+        Along (SlipRight continuous) (post_all s.slips M) ys →
+        Listed d (post_all ys (post_all s.slips M)) own →
+        Listed (opposite d) (post_all ys (post_all s.slips M)) s.rest →
+        balance ((post_all ys (post_all s.slips M)).accounts e.number) ≡ 0 →
+        Kept t L c (reply (e.volume - s.left) 0 (length (s.slips ++ ys))) M (s.slips ++ ys) (left_with own s.rest)
+    more_kept ys none al lo la spent =
+        record {
+          upheld =
+              upheld_as (reply (e.volume - s.left) 0 (length (s.slips ++ ys))) (s.slips ++ ys) _
+              (record {
+                each = along_append (SlipRight continuous) s.slips ys M sw.along al;
+                fixing = tt;
+                answer =
+                    owed continuous (s.slips ++ ys) (e.volume - s.left) 0 (omega (arith, sum_left, traded_append s.slips ys, none))
+                    (sym (ap (λ (K : Ledger). balance (K.accounts e.number)) (post_append s.slips ys M) ∙ spent));
+                shown =
+                    subst (λ K. Shown K (sided d own s.rest))
+                    (sym (post_append s.slips ys M))
+                    (shown_of (post_all ys (post_all s.slips M)) d own s.rest lo la
+                    (λ _. own_apart) (λ _. own-limit) (λ _. rest_limit));
+              });
+          opened = opened_post t (s.slips ++ ys) M opened;
+          stage = sym (post_stage (s.slips ++ ys) M ∙ same);
+          tally = sym (post_tally (s.slips ++ ys) M);
+          fits = fits_sided tab d own s.rest (omega (arith, room)) rest_fits;
+        }
+
+    -- nothing but the entering order is a market order
+    e_turn :
+        (K : Ledger) → Listed d K (insert (before d) (with_volume s.left e) own) → Listed (opposite d) K s.rest →
+        InTurn d K (with_volume s.left e)
+    e_turn K lo la =
+        record {
+          ranks =
+              λ x l mk.
+              ⊎_elim inl (λ m. absurd (both_ways x.market (own-limit x m) mk))
+              (insert_in d (with_volume s.left e) own x (lo.complete x l));
+          buys_first =
+              λ q x l. rest_limit x (la.complete x (subst (λ z. Live (opposite z) K x) (sym q) l));
+        }
+
+    lapse_kept :
+        e.market ≡ true →
+        0 < s.left →
+        Listed d (post_all s.slips M) (insert (before d) (with_volume s.left e) own) →
+        Kept t L c (reply (e.volume - s.left) 0 (length (s.slips ++ (Lapse e.number s.left ∷ [])))) M
+        (s.slips ++ (Lapse e.number s.left ∷ [])) (left_with own s.rest)
+    lapse_kept mk some le =
+        let K : Ledger = post_all s.slips M in
+        let o : Order = with_volume s.left e in
+        let l : Live d K o = le.sound o (in_insert d o own o (inl refl)) in
+        more_kept (Lapse e.number s.left ∷ []) (omega arith) (
+          record {
+            order = o;
+            number = refl;
+            live = record { account = l.account; balance = l.balance; side = refl };
+            market = mk;
+            whole = refl;
+            stuck = uncrossed_of K d (insert (before d) o own) s.rest le sw.against (e_apart some);
+            turn = subst (λ z. InTurn z K o) (sym l.side) (e_turn K le sw.against);
+            may = last ∙ sym (post_tally s.slips M);
+          },
+          tt,
+        )
+        (besides_close e.number K (down e.number s.left K) (down_off e.number s.left K) d own
+        (uninsert d K o own sorted new le)
+        (λ x k q.
+        let v : x.volume ≡ s.left - s.left = ap (λ (z : Order). z.volume) (down_live d d s.left K o x l k q) in
+        let b : 0 < x.volume = k.balance in
+        omega arith))
+        (down_against d s.left K o s.rest l sw.against)
+        (ap balance (down_at e.number s.left K o l.account) ∙ omega arith)
+
+    market_kept :
+        e.market ≡ true →
+        let last-slips : List Slip = s.slips ++ cond (eqb s.left 0) [] (Lapse e.number s.left ∷ []) in
+        Kept t L c (reply (e.volume - s.left) 0 (length last-slips)) M last-slips
+        (left_with own s.rest)
+    market_kept mk =
+        cond_both _ _ _
+        (λ ys. Kept t L c (reply (e.volume - s.left) 0 (length (s.slips ++ ys))) M (s.slips ++ ys) (left_with own s.rest))
+        (λ z.
+        more_kept [] refl tt
+        (subst (Listed d (post_all s.slips M)) (cond-true (eqb s.left 0) own (insert (before d) (with_volume s.left e) own) z) sw.own_side)
+        sw.against
+        (ap balance sw.account ∙ eqb-true s.left 0 z))
+        (λ z.
+        lapse_kept mk (pos s.left (eqb-false s.left 0 z))
+        (subst (Listed d (post_all s.slips M)) (cond-false (eqb s.left 0) own (insert (before d) (with_volume s.left e) own) z) sw.own_side))
+
+  pub arrive_kept :
+      0 < e.volume →
+      M.accounts e.number ≡ Some e →
+      Listed e.direction M (insert (before e.direction) e own) →
+      Listed (opposite e.direction) M opp →
+      GoodAt t L c M (arrive L.stage M.tally e (table_of tab e.direction own opp) reply (sweep e.direction e.number e.price opp e.volume))
+  arrive_kept some ac lo la =
+      let s : Swept = sweep d e.number e.price opp e.volume in
+      let start : Listed d M (stand d e e.volume own) =
+      subst (Listed d M) (sym (cond-false (eqb e.volume 0) own (insert (before d) e own) (ne_eqb e.volume 0 (λ k. omega arith)))) lo
+      in
+      let sw : SweptRight d e own M opp e.volume s =
+      sweep_right d e own opp e.volume M start la ac last clear
+      in
+      cond_both _ _ _
+      (GoodAt t L c M)
+      (λ mk.
+      let more : List Slip = s.slips ++ cond (eqb s.left 0) [] (Lapse e.number s.left ∷ []) in
+      subst
+      (λ (T : Contents). Kept t L c (reply (e.volume - s.left) 0 (length more)) M more (record { stage = L.stage; tally = M.tally; table = T }))
+      (sym (dealt_table tab e.direction own opp s.rest)) (market_kept s sw mk))
+      (λ mk.
+      subst
+      (λ (T : Contents). Kept t L c (reply (e.volume - s.left) s.left (length s.slips)) M s.slips (record { stage = L.stage; tally = M.tally; table = T }))
+      (sym (placed_is s sw)) (limit_kept s sw mk))
+
+-- An order that enters where nothing trades -----------------------------------------------------------------------------------
+
+pub queue_kept :
+    (t : Terms) (L : Ledger) (c : Call) (M : Ledger) (tab : Contents) (e : Order) (own opp : List Order) →
+    M.stage ≡ L.stage →
+    ((a : Answer) → FixingRight t L (mode L.stage c (price_of a)) []) →
+    AllOpened t M.tally M.accounts →
+    M.accounts e.number ≡ Some e →
+    Listed e.direction M (insert (before e.direction) e own) →
+    Listed (opposite e.direction) M opp →
+    (Settled M.stage → (x y : Order) → Member x (insert (before e.direction) e own) → Member y opp → Apart e.direction x y) →
+    (Settled M.stage → Limit (insert (before e.direction) e own)) →
+    (Settled M.stage → Limit opp) →
+    takes (table_of tab e.direction own opp) e ≡ true →
+    length own < tab.capacity.places →
+    length opp ≤ tab.capacity.places →
+    (reply : Reply) →
+    Due L c M e.number reply →
+    GoodAt t L c M (queue L.stage M.tally e (table_of tab e.direction own opp) reply)
+queue_kept t L c M tab e own opp same no-fixing opened ac lo la gap f g taken room opp-fits reply owed =
+    let d : Direction = e.direction in
+    subst
+    (λ (T : Contents). Kept t L c (reply 0 e.volume 0) M [] (record { stage = L.stage; tally = M.tally; table = T }))
+    (sym (added_sided tab e own opp taken))
+    (record {
+      upheld =
+          record {
+            each = tt;
+            fixing = no-fixing (reply 0 e.volume 0);
+            answer = owed (mode L.stage c (price_of (reply 0 e.volume 0))) [] 0 e.volume refl (sym (ap balance ac));
+            shown = shown_of M d (insert (before d) e own) opp lo la gap f g;
+          };
+      opened = opened;
+      stage = sym same;
+      tally = refl;
+      fits = fits_sided tab d (insert (before d) e own) opp (omega (arith, room, length-insert (before d) e own)) opp-fits;
+    })
+
+-- dealing is no fixing
+pub dealing_none : (t : Terms) (L : Ledger) (s : Stage) (slips : List Slip) → FixingRight t L (dealing s) slips
+dealing_none t L PreOpen slips = tt
+dealing_none t L Open slips = tt
+dealing_none t L PreClose slips = tt
+dealing_none t L Closed slips = tt
+
+-- The ledger's words and the model's -----------------------------------------------------------------------------------------------
+
+pub opening_is : (t : Terms) (n member : ℕ) (d : Direction) (limit : Option ℕ) (volume : ℕ) → entering t n member d limit volume ≡ opening t n member d limit volume
+opening_is t n member Buy None volume = refl
+opening_is t n member Sell None volume = refl
+opening_is t n member Buy (Some p) volume = refl
+opening_is t n member Sell (Some p) volume = refl
+
+eqb_swap : (a b : ℕ) → eqb a b ≡ eqb b a
+eqb_swap a b =
+    ⊎_elim (λ e. eq-eqb a b e ∙ sym (eq-eqb b a (sym e))) (λ e. ne_eqb a b e ∙ sym (ne_eqb b a (λ k. e (sym k)))) (cases_eq a b)
+
+renews_is : (a b : Bool) → (not a || b) ≡ cond a b true
+renews_is true b = refl
+renews_is false b = refl
+
+pub moves_is : (price volume : ℕ) (o : Order) → moves price volume o ≡ renews price volume o
+moves_is price volume o =
+    ap (λ a. not a || ltb o.volume volume) (eqb_swap price o.price) ∙ renews_is (eqb o.price price) (ltb o.volume volume)
+
+-- what the model makes of an alter
+abbrev pub alter_ledger : ℕ → ℕ → ℕ → Order → Ledger → Ledger
+alter_ledger n price volume o L =
+    record {
+      stage = L.stage;
+      tally = alter_tally L.tally price volume o;
+      accounts = put n (Some (altered L.tally price volume o)) L.accounts;
+    }
+
+alter_on : (n price volume : ℕ) (o : Order) (L : Ledger) (b : Bool) → moves price volume o ≡ b → alter_ledger n price volume o L ≡ cond b (renew n price volume o L) (keep n price volume o L)
+alter_on n price volume o L true e =
+    ap (λ b. record { stage = L.stage; tally = cond b (suc L.tally) L.tally; accounts = put n (Some (rewritten price volume (cond b (suc L.tally) o.arrival) o)) L.accounts }) e
+alter_on n price volume o L false e =
+    ap (λ b. record { stage = L.stage; tally = cond b (suc L.tally) L.tally; accounts = put n (Some (rewritten price volume (cond b (suc L.tally) o.arrival) o)) L.accounts }) e
+
+pub alter_is : (n price volume : ℕ) (o : Order) (L : Ledger) → alter_ledger n price volume o L ≡ alter_account n price volume (Some o) L
+alter_is n price volume o L = alter_on n price volume o L (renews price volume o) (moves_is price volume o)
+
+-- Enter ------------------------------------------------------------------------------------------------------------------------
+
+pub in_band : (t : Terms) (p : ℕ) → price_row t.lo t.hi p ≡ None → (t.lo ≤ p) × (p ≤ t.hi)
+in_band t p e = (grind (arith, nat_tests), grind (arith, nat_tests))
+
+pub band_price :
+    (t : Terms) (d : Direction) (limit : Option ℕ) → limit_row t limit ≡ None →
+    (t.lo ≤ limit_price t d limit) × (limit_price t d limit ≤ t.hi)
+band_price t Buy None e = (omega (arith, t.low, t.high), omega arith)
+band_price t Sell None e = (omega arith, omega (arith, t.low, t.high))
+band_price t Buy (Some p) e = in_band t p e
+band_price t Sell (Some p) e = in_band t p e
+
+pub some_volume : (block v : ℕ) → volume_row block v ≡ None → 0 < v
+some_volume block v e = grind (arith, nat_tests)
+
+module _ (t : Terms) (L : Ledger) (tab : Contents) (inv : Inv t L tab) where
+  -- one account set, on one side
+  module _ (M : Ledger) (d : Direction) (e : Order) (off : Off e.number L M) (l : Live d M e)
+      (against-old : Dead e.number (opposite d) L) where
+    put_own : Listed d M (insert (before d) e (without e.number (side d tab.book)))
+    put_own =
+        besides_insert e.number L M off d (without e.number (side d tab.book))
+        (besides_without e.number d L (side d tab.book) (listing (inv.shown.sides d))) e l refl
+
+    put_new : Dead e.number d L → Listed d M (insert (before d) e (side d tab.book))
+    put_new h =
+        besides_insert e.number L M off d (side d tab.book)
+        (besides_none e.number d L (side d tab.book) h (listing (inv.shown.sides d))) e l refl
+
+    put_against : Listed (opposite d) M (side (opposite d) tab.book)
+    put_against =
+        besides_close e.number L M off (opposite d) (side (opposite d) tab.book)
+        (besides_none e.number (opposite d) L (side (opposite d) tab.book) against-old (listing (inv.shown.sides (opposite d))))
+        (one_side M d e l)
+
+  pub none_next : (d : Direction) → Dead (suc L.tally) d L
+  none_next d x l q = let b : x.number ≤ L.tally = (inv.opened x.number x l.account).below in omega arith
+
+  pub enter_good :
+      (member : ℕ) (d : Direction) (limit : Option ℕ) (volume room : ℕ) →
+      Good t L (Enter member d limit volume) (step t (day_at L tab) (Enter member d limit volume) room)
+  enter_good member d limit volume room =
+      let c : Call = Enter member d limit volume in
+      let n : ℕ = suc L.tally in
+      let e : Order = entering t n member d limit volume in
+      let M : Ledger = record { stage = L.stage; tally = n; accounts = put n (Some e) L.accounts } in
+      let own : List Order = side d tab.book in
+      let opp : List Order = side (opposite d) tab.book in
+      let T : Contents = table_of tab d own opp in
+      let whole : T ≡ tab = ap (holding tab) (sided_same d tab.book) in
+      let shut = tested t L tab inv in
+      let row = passed t L tab inv in
+      shut c (is_closed L.stage) 3 _ (λ not-closed.
+      row c (member_row member) _ (λ _.
+      row c (volume_row t.block volume) _ (λ good-volume.
+      row c (limit_row t limit) _ (λ inside.
+      shut c (leb 1000000 L.tally) 10 _ (λ _.
+      shut c (full tab d) 11 _ (λ not-full.
+      shut c (short_run (day_at L tab) room d) 12 _ (λ _.
+      let place : length own < tab.capacity.places = leb-false tab.capacity.places (length own) not-full in
+      let taken : takes T e ≡ true =
+      takes_sided tab e own opp place
+      (λ x m. none_next d x ((listing (inv.shown.sides d)).sound x m))
+      (λ x m. none_next (opposite d) x ((listing (inv.shown.sides (opposite d))).sound x m))
+      in
+      let off : Off n L M = λ m k. put_other n (Some e) L.accounts m k in
+      let some : 0 < volume = some_volume t.block volume good-volume in
+      let l : Live d M e = record { account = put_same n (Some e) L.accounts; balance = some; side = refl } in
+      let lo : Listed d M (insert (before d) e own) = put_new M d e off l (none_next (opposite d)) (none_next d) in
+      let la : Listed (opposite d) M opp = put_against M d e off l (none_next (opposite d)) in
+      let op : AllOpened t n M.accounts =
+      opened_put t n L.accounts (opened_more t L.tally L.accounts inv.opened n (omega arith)) n (Some e)
+      (λ o q.
+      let r : e ≡ o = cc in
+      let bp = band_price t d limit inside in
+      subst (Opened t n n) r (record { number = refl; above = omega arith; below = omega arith; low = bp.0; high = bp.1 }))
+      in
+      let ac : M.accounts n ≡ Some e = put_same n (Some e) L.accounts in
+      let owed : Due L c M n (Entered n) = λ m slips sum kept p q i. Entered n (p i) (q i) (length slips) in
+      good_from t L c M
+      (λ a i. record { stage = L.stage; tally = n; accounts = put n (Some (opening_is t n member d limit volume i)) L.accounts })
+      (enter (day_at L tab) e)
+      (subst (λ (X : Contents). GoodAt t L c M (enter (day_at L X) e)) whole
+      (cond_both _ _ _
+      (GoodAt t L c M)
+      (λ is-o.
+      let trading : L.stage ≡ Open = is_open_true L.stage is-o in
+      let settled : Settled L.stage = settled_open L.stage trading in
+      subst (λ xs. GoodAt t L c M (arrive L.stage n e T (Entered n) (sweep d n e.price xs volume))) (sym (side_against d own opp))
+      (arrive_kept t L c M tab e own opp refl (λ a. ap dealing trading) refl op (listing (inv.shown.sides d)).sorted
+      (λ x m. none_next d x ((listing (inv.shown.sides d)).sound x m))
+      (apart_of L tab.book inv.shown settled d) (limit_of L tab.book inv.shown settled d)
+      (limit_of L tab.book inv.shown settled (opposite d)) place (inv.fits (opposite d)) (Entered n) owed some ac lo la))
+      (λ not-o.
+      queue_kept t L c M tab e own opp refl (λ a. dealing_none t L L.stage []) op ac lo la
+      (λ k. absurd (unsettled L.stage not-o not-closed k)) (λ k. absurd (unsettled L.stage not-o not-closed k))
+      (λ k. absurd (unsettled L.stage not-o not-closed k)) taken place
+      (inv.fits (opposite d)) (Entered n) owed)))
+      )))))))
+
+  -- Alter ------------------------------------------------------------------------------------------------------------------------
+
+  alter_kept :
+      (member price volume : ℕ) (o : Order) →
+      Live o.direction L o →
+      held o.number tab.book ≡ true →
+      is_closed L.stage ≡ false →
+      0 < volume →
+      limit_row t (Some price) ≡ None →
+      o.market ≡ false →
+      Good t L (Alter member o.number price volume) (alter (day_at L tab) price volume o)
+  alter_kept member price volume o l there not-closed some inside limit =
+      let c : Call = Alter member o.number price volume in
+      let n : ℕ = o.number in
+      let d : Direction = o.direction in
+      let tally : ℕ = alter_tally L.tally price volume o in
+      let e : Order = altered L.tally price volume o in
+      let M : Ledger = alter_ledger n price volume o L in
+      let old : List Order = side d tab.book in
+      let own : List Order = without n old in
+      let opp : List Order = side (opposite d) tab.book in
+      let T : Contents = table_of tab d own opp in
+      let off : Off n L M = λ m k. put_other n (Some e) L.accounts m k in
+      let le : Live d M e = record { account = put_same n (Some e) L.accounts; balance = some; side = refl } in
+      let lo : Listed d M (insert (before d) e own) = put_own M d e off le (one_side L d o l) in
+      let la : Listed (opposite d) M opp = put_against M d e off le (one_side L d o l) in
+      let more : L.tally ≤ tally =
+      cond_both (moves price volume o) (suc L.tally) L.tally (λ k. L.tally ≤ k) (λ _. omega arith) (λ _. omega arith)
+      in
+      let op : AllOpened t tally M.accounts =
+      opened_put t tally L.accounts (opened_more t L.tally L.accounts inv.opened tally more) n (Some e)
+      (λ x q.
+      let r : e ≡ x = cc in
+      let k : Opened t L.tally n o = inv.opened n o l.account in
+      let bp = band_price t d (Some price) inside in
+      subst (Opened t tally n) r (record { number = refl; above = k.above; below = omega (arith, more, k.below); low = bp.0; high = bp.1 }))
+      in
+      let place : length own < tab.capacity.places =
+      omega (arith, length-without n old, times_some n old o ((listing (inv.shown.sides d)).complete o l) refl, inv.fits d)
+      in
+      let fresh : NoneHas n own = λ x m. (without_in n old x m).1 in
+      let taken : takes T e ≡ true = takes_sided tab e own opp place fresh (not_against t L tab inv d o l) in
+      let clear : Settled L.stage → (x y : Order) → Member x own → Member y opp → Apart d x y =
+      λ k x y m i. apart_of L tab.book inv.shown k d x y (without_in n old x m).0 i
+      in
+      let limits : Settled L.stage → Limit own =
+      λ k x m. limit_of L tab.book inv.shown k d x (without_in n old x m).0
+      in
+      let ac : M.accounts n ≡ Some e = put_same n (Some e) L.accounts in
+      let owed : Due L c M n Altered = λ m slips sum kept p q i. Altered (p i) (q i) (length slips) in
+      good_from t L c M (λ a. alter_is n price volume o L ∙ sym (ap (λ x. alter_account n price volume x L) l.account))
+      (alter (day_at L tab) price volume o)
+      (subst
+      (λ (X : Contents).
+      GoodAt t L c M
+      (cond (is_open L.stage && not (eqb price o.price))
+      (arrive L.stage tally e X Altered (sweep d n price (listed (opposite d) X) volume))
+      (queue L.stage tally e X Altered)))
+      (sym (removed_is t L tab inv o l there))
+      (cond_both _ _ _
+      (GoodAt t L c M)
+      (λ h.
+      let both = and_parts (is_open L.stage) (not (eqb price o.price)) h in
+      let trading : L.stage ≡ Open = is_open_true L.stage both.0 in
+      let settled : Settled L.stage = settled_open L.stage trading in
+      let moved : moves price volume o ≡ true = ap (λ b. b || ltb o.volume volume) both.1 in
+      let last : Entering M e =
+      ap (λ b. cond b (suc L.tally) o.arrival) moved ∙ sym (ap (λ b. cond b (suc L.tally) L.tally) moved)
+      in
+      subst (λ xs. GoodAt t L c M (arrive L.stage tally e T Altered (sweep d n price xs volume))) (sym (side_against d own opp))
+      (arrive_kept t L c M tab e own opp refl (λ a. ap dealing trading) last op
+      (besides_without n d L old (listing (inv.shown.sides d))).sorted fresh
+      (clear settled) (limits settled) (limit_of L tab.book inv.shown settled (opposite d)) place (inv.fits (opposite d))
+      Altered owed some ac lo la))
+      (λ h.
+      queue_kept t L c M tab e own opp refl (λ a. dealing_none t L L.stage []) op ac lo la
+      (λ k x y m i.
+      ⊎_elim
+      (λ q.
+      ⊎_elim (λ not-o. absurd (unsettled L.stage not-o not-closed k))
+      (λ same.
+      let p : price ≡ o.price = eqb-true price o.price (not-false (eqb price o.price) same) in
+      subst (λ (w : Order). Apart d w y) (sym q)
+      (subst (λ z. willing (opposite d) y.price z ≡ false) (sym p)
+      (apart_of L tab.book inv.shown k d o y ((listing (inv.shown.sides d)).complete o l) i)))
+      (and_cases (is_open L.stage) (not (eqb price o.price)) h))
+      (λ j. clear k x y j i) (insert_in d e own x m))
+      (λ k x m. ⊎_elim (λ q. ap (λ (z : Order). z.market) q ∙ limit) (λ j. limits k x j) (insert_in d e own x m))
+      (λ k. limit_of L tab.book inv.shown k (opposite d)) taken place (inv.fits (opposite d)) Altered owed)))
+
+  pub alter_good :
+      (member n price volume room : ℕ) →
+      Good t L (Alter member n price volume) (step t (day_at L tab) (Alter member n price volume) room)
+  alter_good member n price volume room =
+      let c : Call = Alter member n price volume in
+      let shut = tested t L tab inv in
+      let row = passed t L tab inv in
+      shut c (is_closed L.stage) 3 _ (λ not-closed.
+      row c (member_row member) _ (λ _.
+      row c (volume_row t.block volume) _ (λ good-volume.
+      row c (limit_row t (Some price)) _ (λ inside.
+      owned_good t L tab inv member n c _
+      (λ o l e there.
+      shut c o.market 9 _ (λ limit.
+      shut c (leb 1000000 L.tally) 10 _ (λ _.
+      shut c (short_run (day_at L tab) room o.direction) 12 _ (λ _.
+      subst (λ i. Good t L (Alter member i price volume) (alter (day_at L tab) price volume o)) e
+      (alter_kept member price volume o l there not-closed (some_volume t.block volume good-volume) inside limit)))))))))

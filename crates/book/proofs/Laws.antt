@@ -1,0 +1,306 @@
+-- Advance, and the law.
+use Rattle.std.proofs.Common.{◌≡◌, ℕ, ◌≤◌, List, [], ◌∷◌, ◌++◌, length, Some, None, Option, sym, refl, ap, ◌∙◌, subst, arith}
+use Rattle.rules.specs.declared.order.Direction.{Direction}
+use Rattle.rules.specs.declared.order.Direction.TheVariants.{Buy, Sell}
+use Rattle.book.specs.declared.stage.Stage.{Stage}
+use Rattle.book.specs.declared.stage.Stage.TheVariants.{PreOpen, Open, PreClose, Closed}
+use Rattle.rules.specs.declared.order.Order.{Order}
+use Rattle.rules.specs.declared.terms.Terms.{Terms}
+use Rattle.book.specs.declared.slip.Slip.{Slip}
+use Rattle.book.specs.declared.call.Call.{Call}
+use Rattle.book.specs.declared.call.Call.TheVariants.{Enter, Alter, Withdraw, Advance}
+use Rattle.book.specs.declared.answer.Answer.{Answer}
+use Rattle.book.specs.declared.answer.Answer.TheVariants.{Advanced}
+use Rattle.book.specs.Rules.{next}
+use Rattle.rules.specs.Book.{side}
+use Rattle.tables.specs.Meaning.{Capacity, Contents, Fits, book_of, empty}
+use Rattle.book.specs.Ledger.{Ledger, following, fresh, Live, Uncrossed, live_book, at_stage, post_all, traded}
+use Rattle.book.specs.Day.{refused_by, done, Day, new, turnover, Outcome, step, advance, short_strike, strike, fixing_price, match_at, Paired, lapses, limits}
+use Rattle.book.specs.Law.{fixing_at, advancing, SlipRight, GreatestFixing, PriceRight, Settled, Shown, Upheld, Try, book_keeping, ledger, Lawful, Law}
+use Rattle.book.specs.Model.{moved, result, day_after, model}
+use Rattle.book.proofs.Members.{listing, listed, Member, Exactly}
+use Rattle.book.proofs.Ranks.{exactly_as}
+use Rattle.book.proofs.Trades.{Listed}
+use Rattle.book.proofs.Accounts.{not_both}
+use Rattle.book.proofs.Sided.{fits_sided}
+use Rattle.book.proofs.Kept.{sides_of, Opened, Inv, day_at, Good, limit_live, post_stage, post_tally, post_append, along_append, opened_post}
+use Rattle.book.proofs.Calls.{tested, withdraw_good, enter_good, alter_good}
+use Rattle.book.proofs.Strike.{PairedRight, match_right, Limited, side_lapses, limits_limit, turnover-traded, uncrossed_lapses, traded_append, traded-lapses}
+use Rattle.rules.specs.Allotment.{Allotment, Idle}
+use Rattle.rules.specs.Curve.{tradable, surplus}
+use Rattle.rules.proofs.Allots.{allotment_bound, allotment_most}
+use Rattle.book.proofs.Depths.{tradable_is, surplus_is}
+use Rattle.book.proofs.Fixing.{match_short, limits_short, Price, Sane, fixing_right, most_traded, left_apart}
+
+-- the accounts are the same
+pub live_as : (d : Direction) (L M : Ledger) → M.accounts ≡ L.accounts → (o : Order) → Live d L o → Live d M o
+live_as d L M e o l =
+    record { account = ap (λ f. f o.number) e ∙ l.account; balance = l.balance; side = l.side }
+
+pub listed_as : (d : Direction) (L M : Ledger) → M.accounts ≡ L.accounts → (xs : List Order) → Listed d L xs → Listed d M xs
+listed_as d L M e xs ex = exactly_as d (Live d L) xs ex (Live d M) (live_as d L M e) (live_as d M L (sym e))
+
+-- the ledger's stages are the model's
+next_is : (s : Stage) → next s ≡ following s
+next_is PreOpen = refl
+next_is Open = refl
+next_is PreClose = refl
+next_is Closed = refl
+
+module _ (t : Terms) (L : Ledger) (tab : Contents) (inv : Inv t L tab) where
+  abbrev buys : List Order
+  buys = tab.book.buys
+
+  abbrev sells : List Order
+  sells = tab.book.sells
+
+  sane : (d : Direction) (xs : List Order) → Listed d L xs → (x : Order) → Member x xs → Sane t x
+  sane d xs ex x m =
+      let l : Live d L x = ex.sound x m in
+      let k : Opened t L.tally x.number x = inv.opened x.number x l.account in
+      record { low = k.low; high = k.high; volume = l.balance }
+
+  slips : List Slip
+  slips =
+      (match_at (fixing_price t tab.book) buys sells).slips ++
+      (lapses (match_at (fixing_price t tab.book) buys sells).buys ++
+      lapses (match_at (fixing_price t tab.book) buys sells).sells)
+
+  slips_traded : traded slips ≡ traded (match_at (fixing_price t tab.book) buys sells).slips
+  unfolding slips
+  slips_traded =
+      let p : Paired = match_at (fixing_price t tab.book) buys sells in
+      omega (
+        arith,
+        traded_append p.slips (lapses p.buys ++ lapses p.sells),
+        traded_append (lapses p.buys) (lapses p.sells),
+        traded-lapses p.buys,
+        traded-lapses p.sells,
+      )
+
+  -- the ledger's live orders and the lists can trade the same
+  same_tradable : (p : ℕ) → tradable (live_book L) p ≡ tradable tab.book p
+  same_tradable = tradable_is t L inv.opened buys sells (listing (inv.shown.sides Buy)) (listing (inv.shown.sides Sell))
+
+  same_surplus : (p : ℕ) → surplus (live_book L) p ≡ surplus tab.book p
+  same_surplus = surplus_is t L inv.opened buys sells (listing (inv.shown.sides Buy)) (listing (inv.shown.sides Sell))
+
+  most : (p v : ℕ) → t.lo ≤ p → p ≤ t.hi → Allotment (live_book L) p v → v ≤ traded slips
+  most p v lo hi a =
+      let x = allotment_bound (live_book L) p v a in
+      let y =
+      most_traded t buys sells (listing (inv.shown.sides Buy)).sorted (listing (inv.shown.sides Sell)).sorted (sane Buy buys (listing (inv.shown.sides Buy)))
+      (sane Sell sells (listing (inv.shown.sides Sell))) p lo hi
+      in
+      omega (arith, x, y, same_tradable p, slips_traded)
+
+  greatest : GreatestFixing t L (fixing_price t tab.book) slips
+  greatest =
+      record {
+        most = most;
+        nothing =
+            λ e p v lo hi a.
+            let z : traded (match_at (fixing_price t tab.book) buys sells).slips ≡ 0 =
+            ap (λ q. traded (match_at q buys sells).slips) e
+            in
+            omega (arith, most p v lo hi a, slips_traded);
+        without = λ h. on h (fixing_price t tab.book) (fixing_right t tab.book);
+      }
+    where
+      on : Idle t.lo t.hi (live_book L) → (q : Option ℕ) → Price t tab.book q → q ≡ None
+      on h None k = refl
+      on h (Some p) k =
+          let a = h p (tradable (live_book L) p) k.0.low k.0.high (allotment_most (live_book L) p) in
+          absurd (omega (arith, k.1, a, same_tradable p))
+
+  price_right : (q : Option ℕ) → Price t tab.book q → PriceRight t L q
+  price_right None k = tt
+  price_right (Some P) k =
+      record {
+        low = k.0.low;
+        high = k.0.high;
+        greatest = λ q lo hi. omega (arith, same_tradable q, same_tradable P, k.0.greatest q lo hi);
+        smallest =
+            λ q lo hi same.
+            omega (arith, same_surplus q, same_surplus P, k.0.smallest q lo hi (sym (same_tradable q) ∙ (same ∙ same_tradable P)));
+        nearest =
+            λ q lo hi same also.
+            k.0.nearest q lo hi (sym (same_tradable q) ∙ (same ∙ same_tradable P)) (sym (same_surplus q) ∙ (also ∙ same_surplus P));
+      }
+
+  strike_kept :
+      ((price : Option ℕ) → advancing L.stage price ≡ fixing_at price) → Good t L Advance (strike t (day_at L tab))
+  unfolding slips
+  strike_kept st =
+      let price : Option ℕ = fixing_price t tab.book in
+      let p : Paired = match_at price buys sells in
+      let c : Call = Advance in
+      let a : Answer = Advanced (next L.stage) price (turnover slips) (length slips) in
+      let M : Ledger = at_stage (following L.stage) L in
+      let pr : PairedRight price M p =
+      match_right price price refl buys sells M (listed_as Buy L M refl buys (listing (inv.shown.sides Buy)))
+      (listed_as Sell L M refl sells (listing (inv.shown.sides Sell)))
+      in
+      let N : Ledger = post_all p.slips M in
+      let un : Uncrossed N =
+      λ b s x y.
+      left_apart t buys sells (listing (inv.shown.sides Buy)).sorted (listing (inv.shown.sides Sell)).sorted (sane Buy buys (listing (inv.shown.sides Buy)))
+      (sane Sell sells (listing (inv.shown.sides Sell))) b s (pr.buy_side.complete b x) (pr.sell_side.complete s y)
+      in
+      let lb : Limited price Buy N p.buys p.sells =
+      side_lapses price Buy p.buys p.sells N pr.buy_side pr.sell_side un (λ e. absurd (not_both Buy e))
+      in
+      let O : Ledger = post_all (lapses p.buys) N in
+      let ls : Limited price Sell O p.sells (limits p.buys) =
+      side_lapses price Sell p.sells (limits p.buys) O lb.against lb.own_side (uncrossed_lapses p.buys N un)
+      (λ _ x l. limits_limit price p.buys x (lb.own_side.complete x l))
+      in
+      let Q : Ledger = post_all (lapses p.sells) O in
+      let end : post_all slips M ≡ Q =
+      post_append p.slips (lapses p.buys ++ lapses p.sells) M ∙ post_append (lapses p.buys) (lapses p.sells) N
+      in
+      record {
+        upheld =
+            subst (λ m. Upheld t L c a m M slips (book_of (limits p.buys) (limits p.sells))) (sym (st price))
+            (record {
+              each =
+                  along_append (SlipRight (fixing_at price)) p.slips (lapses p.buys ++ lapses p.sells) M pr.along
+                  (along_append (SlipRight (fixing_at price)) (lapses p.buys) (lapses p.sells) N lb.along ls.along);
+              fixing = (greatest, price_right price (fixing_right t tab.book));
+              answer = ap (λ s. Advanced s price (turnover slips) (length slips)) (next_is L.stage) ∙ ap (λ v. Advanced (following L.stage) price v (length slips)) (turnover-traded slips);
+              shown =
+                  subst (λ K. Shown K (book_of (limits p.buys) (limits p.sells))) (sym end)
+                  (record {
+                    sides = λ e. listed (sides_of Q Buy (limits p.buys) (limits p.sells) ls.against ls.own_side e);
+                    gap = λ _. uncrossed_lapses p.sells O (uncrossed_lapses p.buys N un);
+                    limit =
+                        λ _.
+                        limit_live Q Buy (limits p.buys) (limits p.sells) ls.against ls.own_side
+                        (limits_limit price p.buys) (limits_limit price p.sells);
+                  });
+            });
+        opened = opened_post t slips M inv.opened;
+        stage = next_is L.stage ∙ sym (post_stage slips M);
+        tally = sym (post_tally slips M);
+        fits =
+            (let k = match_short price buys sells in
+            fits_sided tab Buy (limits p.buys) (limits p.sells) (omega (arith, k.0, limits_short p.buys, inv.fits Buy))
+            (omega (arith, k.1, limits_short p.sells, inv.fits Sell)));
+      }
+
+-- Each call, each history -------------------------------------------------------------------------------------------------------
+
+pub advance_good :
+    (t : Terms) (s : Stage) (L : Ledger) → L.stage ≡ s →
+    (tab : Contents) → Inv t L tab → (room : ℕ) →
+    Good t L Advance (advance t (day_at L tab) room s)
+advance_good t PreOpen L e tab inv room =
+    tested t L tab inv Advance (short_strike (day_at L tab) room) 12 (strike t (day_at L tab))
+    (λ _. strike_kept t L tab inv (λ price. ap (λ s. advancing s price) e))
+advance_good t Open L e tab inv room =
+    let M : Ledger = at_stage (following L.stage) L in
+    let at : following L.stage ≡ PreClose = ap following e in
+    let a : Answer = Advanced PreClose None 0 0 in
+    record {
+      upheld =
+          subst (λ m. Upheld t L Advance a m M [] tab.book) (sym (ap (λ s. advancing s None) e))
+          (record {
+            each = tt;
+            fixing = tt;
+            answer = ap (λ s. Advanced s None 0 0) (sym at);
+            shown =
+                record {
+                  sides = λ d. listed (listed_as d L M refl (side d tab.book) (listing (inv.shown.sides d)));
+                  gap = λ k. absurd (subst Settled at k);
+                  limit = λ k. absurd (subst Settled at k);
+                };
+          });
+      opened = inv.opened;
+      stage = sym at;
+      tally = refl;
+      fits = inv.fits;
+    }
+advance_good t PreClose L e tab inv room =
+    tested t L tab inv Advance (short_strike (day_at L tab) room) 12 (strike t (day_at L tab))
+    (λ _. strike_kept t L tab inv (λ price. ap (λ s. advancing s price) e))
+advance_good t Closed L e tab inv room = tt
+
+pub step_good :
+    (t : Terms) (L : Ledger) (tab : Contents) → Inv t L tab → (c : Call) (room : ℕ) →
+    Good t L c (step t (day_at L tab) c room)
+step_good t L tab inv (Enter member d limit volume) room = enter_good t L tab inv member d limit volume room
+step_good t L tab inv (Alter member n price volume) room = alter_good t L tab inv member n price volume room
+step_good t L tab inv (Withdraw member n) room = withdraw_good t L tab inv member n room
+step_good t L tab inv Advance room = advance_good t L.stage L refl tab inv room
+
+-- the session and its ledger agree
+pub record Agrees (t : Terms) (L : Ledger) (day : Day) : Type 0 where
+  pub day_is : day ≡ day_at L day.table
+  pub inv : Inv t L day.table
+
+pub start_agrees : (t : Terms) (cap : Capacity) → Agrees t fresh (new cap)
+start_agrees t cap =
+    record {
+      day_is = refl;
+      inv =
+          record {
+            shown =
+                record {
+                  sides = λ d. listed (nothing d);
+                  gap = λ k. absurd k;
+                  limit = λ k. absurd k;
+                };
+            opened = λ n o e. absurd (none_some o e);
+            fits = none;
+          };
+    }
+  where
+    none_some : (o : Order) → ◌≡◌ {A = Option Order} None (Some o) → ⊥
+    none_some o e = let z : ◌≡◌ {A = ℕ} 0 1 = cc in omega arith
+
+    never : {d : Direction} {o : Order} → Live d fresh o → ⊥
+    never {d} {o} l = none_some o l.account
+
+    nothing : (d : Direction) → Exactly d (Live d fresh) (side d empty)
+    nothing Buy = record { sorted = refl; sound = λ o m. absurd m; complete = λ o l. never l }
+    nothing Sell = record { sorted = refl; sound = λ o m. absurd m; complete = λ o l. never l }
+
+    none : Fits (new cap).table
+    none Buy = omega arith
+    none Sell = omega arith
+
+module _ (t : Terms) where
+  pub good : (L : Ledger) (day : Day) → Agrees t L day → (c : Call) (room : ℕ) → Good t L c (step t day c room)
+  good L day g c room =
+      subst (λ d. Good t L c (step t d c room)) (sym g.day_is) (step_good t L day.table g.inv c room)
+
+  pub after_agrees :
+      (L : Ledger) (day : Day) (c : Call) (out : Outcome) → Agrees t L day → Good t L c out →
+      Agrees t (book_keeping t c (result out) L) (moved day out)
+  after_agrees L day c (refused_by n) g h = g
+  after_agrees L day c (done after a ss) g h =
+      record {
+        day_is = λ i. record { stage = h.stage i; tally = h.tally i; table = after.table };
+        inv = record { shown = h.upheld.shown; opened = h.opened; fits = h.fits };
+      }
+
+  pub lawful :
+      (L : Ledger) (day : Day) (c : Call) (out : Outcome) → Agrees t L day → Good t L c out →
+      Lawful t L c (result out) (moved day out).table.book
+  lawful L day c (refused_by n) g h = g.inv.shown
+  lawful L day c (done after a ss) g h = h.upheld
+
+  pub history_agrees : (cap : Capacity) (past : List Try) → Agrees t (ledger model t cap past) (day_after step t cap past)
+  history_agrees cap [] = start_agrees t cap
+  history_agrees cap (x ∷ past) =
+      let day : Day = day_after step t cap past in
+      let L : Ledger = ledger model t cap past in
+      let g : Agrees t L day = history_agrees cap past in
+      after_agrees L day x.call (step t day x.call x.room) g (good L day g x.call x.room)
+
+pub law : Law model
+law t cap past x =
+    let day : Day = day_after step t cap past in
+    let L : Ledger = ledger model t cap past in
+    let g : Agrees t L day = history_agrees t cap past in
+    lawful t L day x.call (step t day x.call x.room) g (good t L day g x.call x.room)

@@ -1,0 +1,81 @@
+-- The next reference price in the words of a journal, and that the marks of the day come to the same.
+use Rattle.std.specs.Prelude.{◌≡◌, ℕ, Bool, true, false, cond, ◌&&◌, List, [], ◌∷◌, Some, None, Option}
+use Rattle.std.specs.Option.{option_or, unwrap_or}
+use Rattle.rules.specs.Book.{Book, side}
+use Rattle.rules.specs.Reference.{next_reference_under}
+use Rattle.rules.specs.declared.order.Direction.{Direction}
+use Rattle.rules.specs.declared.order.Direction.TheVariants.{Buy, Sell}
+use Rattle.rules.specs.declared.terms.Terms.{Terms}
+use Rattle.tables.specs.Meaning.{Capacity}
+use Rattle.book.specs.declared.call.Call.{Call}
+use Rattle.book.specs.declared.call.Call.TheVariants.{Enter, Alter, Withdraw, Advance}
+use Rattle.book.specs.declared.slip.Slip.{Slip}
+use Rattle.book.specs.declared.slip.Slip.TheVariants.{Trade, Lapse}
+use Rattle.book.specs.declared.stage.Stage.{Stage}
+use Rattle.book.specs.declared.stage.Stage.TheVariants.{PreOpen, Open, PreClose, Closed}
+use Rattle.book.specs.Journal.{Line, books}
+use Rattle.book.specs.Law.{Verdict, refused, accepted}
+use Rattle.book.specs.Leads.{Leads}
+use Rattle.book.specs.Marks.{Session, first_at, left_by}
+
+-- In the journal's words ----------------------------------------------------------------------------------------------
+
+abbrev pub slips_of : Verdict → List Slip
+slips_of (refused n) = []
+slips_of (accepted a slips) = slips
+
+-- the price of the last trade among slips
+abbrev pub last_in : List Slip → Option ℕ
+last_in [] = None
+last_in (Trade b s q v ∷ ss) = option_or (last_in ss) (Some q)
+last_in (Lapse n v ∷ ss) = last_in ss
+
+-- and of a journal, whose last line comes first
+abbrev pub last_traded : List Line → Option ℕ
+last_traded [] = None
+last_traded (x ∷ past) = option_or (last_in (slips_of x.came.result)) (last_traded past)
+
+-- when the best prices are looked at: right after the opening strike, and after an enter, alter or withdraw in Open
+abbrev pub looked : Stage → Call → Bool
+looked PreOpen (Enter member d limit volume) = false
+looked PreOpen (Alter member n price volume) = false
+looked PreOpen (Withdraw member n) = false
+looked PreOpen Advance = true
+looked Open (Enter member d limit volume) = true
+looked Open (Alter member n price volume) = true
+looked Open (Withdraw member n) = true
+looked Open Advance = false
+looked PreClose c = false
+looked Closed c = false
+
+-- where an accepted call is looked at, the best order of side d stood at p
+abbrev pub stood_at : Direction → ℕ → Bool → Verdict → Book → Bool
+stood_at d p look (refused n) b = true
+stood_at d p look (accepted a slips) b = cond look (first_at p (side d b)) true
+
+-- so throughout the journal
+abbrev pub throughout : Terms → Direction → ℕ → List Line → Bool
+throughout t d p [] = true
+throughout t d p (x ∷ past) =
+    stood_at d p (looked (books t past).stage x.asked.call) x.came.result x.came.book && throughout t d p past
+
+-- the last trade; else the highest price, where the best buy stood there throughout; else the lowest, likewise for the
+-- best sell; else the reference price. A session that was ended before Closed keeps the reference price
+abbrev pub reference_at : Terms → Stage → List Line → ℕ
+reference_at t PreOpen past = t.reference
+reference_at t Open past = t.reference
+reference_at t PreClose past = t.reference
+reference_at t Closed past =
+    unwrap_or (last_traded past)
+    (cond (throughout t Buy t.hi past) t.hi (cond (throughout t Sell t.lo past) t.lo t.reference))
+
+abbrev pub reference_by : Terms → List Line → ℕ
+reference_by t past = reference_at t (books t past).stage past
+
+-- By the marks --------------------------------------------------------------------------------------------------------
+
+-- whatever journal leads to a session, the reference price that its marks give is the journal's
+abbrev pub EndsByJournal : Type 0
+EndsByJournal =
+    (t : Terms) (cap : Capacity) (past : List Line) (s : Session) → Leads t cap past s →
+    next_reference_under t (left_by s.day.stage s.marks) ≡ reference_by t past

@@ -1,0 +1,355 @@
+-- Rules with one flaw each. The law must fail of every one of them.
+use Rattle.std.specs.Prelude.{fold, ltb, ℕ, zero, suc, ◌+◌, ◌-◌, ◌/◌, Bool, cond, List, [], ◌∷◌, ◌++◌, length, Some, None, Option}
+use Rattle.std.specs.Option.{option_map, unwrap_or}
+use Rattle.rules.specs.Book.{Book, side}
+use Rattle.rules.specs.Curve.{candidate}
+use Rattle.rules.specs.Fixing.{priced}
+use Rattle.rules.specs.Picking.{better_of}
+use Rattle.rules.specs.Rank.{by, level, greater}
+use Rattle.rules.specs.Search.{tried}
+use Rattle.rules.specs.declared.candidate.Candidate.{Candidate}
+use Rattle.tables.specs.Meaning.{book_of, each_side, empty, holding, listed, lookup, volume_set, with_side}
+use Rattle.tables.specs.Listing.{with_volume}
+use Rattle.rules.specs.declared.order.Direction.{Direction}
+use Rattle.book.specs.declared.stage.Stage.{Stage}
+use Rattle.book.specs.declared.stage.Stage.TheVariants.{PreOpen, Open, PreClose, Closed}
+use Rattle.rules.specs.declared.order.Order.{Order}
+use Rattle.rules.specs.declared.terms.Terms.{Terms}
+use Rattle.book.specs.declared.slip.Slip.{Slip}
+use Rattle.book.specs.declared.slip.Slip.TheVariants.{Trade, Lapse}
+use Rattle.book.specs.declared.call.Call.TheVariants.{Enter, Alter, Withdraw, Advance}
+use Rattle.book.specs.declared.answer.Answer.{Answer}
+use Rattle.book.specs.declared.answer.Answer.TheVariants.{Entered, Altered, Withdrawn, Advanced}
+use Rattle.rules.specs.Side.{better, opposite}
+use Rattle.book.specs.Rules.{market_price, next}
+use Rattle.book.specs.Law.{Law, Engine, Came, Verdict, refused, accepted}
+use Rattle.book.specs.Day.{Day, entering, Outcome, refused_by, done, step, enter, trade, is_open, arrive, queue, placed, dealt, Swept, sweep, fixing_price, Paired, match_at, lapses, limits, struck, turnover}
+use Rattle.book.specs.Model.{Step, engine, model}
+
+abbrev pub Fails : Step → Type 0
+Fails f = Law (engine f) → ⊥
+
+-- Answers ---------------------------------------------------------------------------------------------------------------
+
+abbrev pub answering : (Answer → Answer) → Outcome → Outcome
+answering f (refused_by n) = refused_by n
+answering f (done day a slips) = done day (f a) slips
+
+abbrev one_up : Answer → Answer
+one_up (Entered n traded held slips) = Entered (suc n) traded held slips
+one_up (Altered traded held slips) = Altered traded held slips
+one_up (Withdrawn v slips) = Withdrawn v slips
+one_up (Advanced stage price traded slips) = Advanced stage price traded slips
+
+-- enter answers a number that is not the order's
+abbrev pub wrong_number : Step
+wrong_number t day c room = answering one_up (step t day c room)
+
+abbrev miscounted : Answer → Answer
+miscounted (Entered n traded held slips) = Entered n traded held 0
+miscounted (Altered traded held slips) = Altered traded held 0
+miscounted (Withdrawn v slips) = Withdrawn v 0
+miscounted (Advanced stage price traded slips) = Advanced stage price traded 0
+
+-- every call answers that it wrote no slip
+abbrev pub no_count : Step
+no_count t day c room = answering miscounted (step t day c room)
+
+abbrev no_volume_of : Answer → Answer
+no_volume_of (Entered n traded held slips) = Entered n 0 held slips
+no_volume_of (Altered traded held slips) = Altered 0 held slips
+no_volume_of (Withdrawn v slips) = Withdrawn v slips
+no_volume_of (Advanced stage price traded slips) = Advanced stage price 0 slips
+
+-- every call answers that nothing was traded
+abbrev pub no_volume : Step
+no_volume t day c room = answering no_volume_of (step t day c room)
+
+-- Strikes ---------------------------------------------------------------------------------------------------------------
+
+abbrev striking_at : (Day → Outcome) → Terms → Day → ℕ → Stage → Outcome
+striking_at f t day room PreOpen = f day
+striking_at f t day room Open = step t day Advance room
+striking_at f t day room PreClose = f day
+striking_at f t day room Closed = refused_by 3
+
+-- the rules with another strike
+abbrev pub striking : (Terms → Day → Outcome) → Step
+striking f t day (Enter member d limit volume) room = step t day (Enter member d limit volume) room
+striking f t day (Alter member n price volume) room = step t day (Alter member n price volume) room
+striking f t day (Withdraw member n) room = step t day (Withdraw member n) room
+striking f t day Advance room = striking_at (f t) t day room day.stage
+
+-- the rules with another fixing price
+abbrev pub fixing_by : (Terms → Book → Option ℕ) → Step
+fixing_by f =
+    striking
+    (λ t day.
+    let b : Book = day.table.book in
+    let price : Option ℕ = f t b in
+    struck day price (match_at price b.buys b.sells))
+
+-- says no price without looking
+abbrev pub blind : Step
+blind = fixing_by (λ t b. None)
+
+-- by the first two steps alone
+abbrev in_two_steps : Candidate → Candidate → Bool
+in_two_steps = by greater (λ c. c.volume) (by ltb (λ c. c.surplus) level)
+
+abbrev best_in_two : ℕ → Book → ℕ → ℕ → Candidate
+best_in_two r b lo zero = candidate r b lo
+best_in_two r b lo (suc n) = better_of in_two_steps (best_in_two r b lo n) (candidate r b (lo + suc n))
+
+abbrev price_of_best : Candidate → Option ℕ
+price_of_best c = option_map (λ x. x.price) (priced c)
+
+-- leaves out the third step
+abbrev pub two_steps : Step
+two_steps = fixing_by (λ t b. price_of_best (best_in_two t.reference b t.lo (t.hi - t.lo)))
+
+-- tries only prices at which an order stands
+abbrev pub standing_prices : Step
+standing_prices =
+    fixing_by
+    (λ t b.
+    price_of_best
+    (fold (λ held o. tried t.reference b held o.price) (candidate t.reference b t.lo) (b.buys ++ b.sells)))
+
+-- the market orders lapse before anything trades
+abbrev lapsed_first : Terms → Day → Outcome
+lapsed_first t day =
+    let old : Book = day.table.book in
+    let b : Book = each_side limits old in
+    let price : Option ℕ = fixing_price t b in
+    let m : Paired = match_at price b.buys b.sells in
+    let slips : List Slip = lapses old.buys ++ (lapses old.sells ++ m.slips) in
+    done (record { stage = next day.stage; tally = day.tally; table = holding day.table (book_of m.buys m.sells) })
+    (Advanced (next day.stage) price (turnover slips) (length slips)) slips
+
+abbrev pub lapse_first : Step
+lapse_first = striking lapsed_first
+
+-- the trades of slips at the price that their sells stand at
+abbrev sold_at : Book → List Slip → List Slip
+sold_at b [] = []
+sold_at b (Trade n m q v ∷ ss) = Trade n m (unwrap_or (option_map (λ o. o.price) (lookup m b)) q) v ∷ sold_at b ss
+sold_at b (Lapse n v ∷ ss) = Lapse n v ∷ sold_at b ss
+
+-- at a strike each trade is at the lower price of its two orders
+abbrev pub lower_price : Step
+lower_price =
+    striking
+    (λ t day.
+    let b : Book = day.table.book in
+    let price : Option ℕ = fixing_price t b in
+    let m : Paired = match_at price b.buys b.sells in
+    struck day price (record { slips = sold_at b m.slips; buys = m.buys; sells = m.sells }))
+
+-- Trading in Open -------------------------------------------------------------------------------------------------------
+
+-- the rules with another enter in Open
+abbrev pub dealing_by : (Terms → Day → Order → Outcome) → Step
+dealing_by f t day (Enter member d limit volume) room =
+    cond (is_open day.stage) (f t day (entering t (suc day.tally) member d limit volume))
+    (step t day (Enter member d limit volume) room)
+dealing_by f t day (Alter member n price volume) room = step t day (Alter member n price volume) room
+dealing_by f t day (Withdraw member n) room = step t day (Withdraw member n) room
+dealing_by f t day Advance room = step t day Advance room
+
+-- an entering order pays whatever the first of the other side asks
+abbrev pub above_limit : Step
+above_limit =
+    dealing_by
+    (λ t day e.
+    arrive day.stage e.number e day.table (Entered e.number)
+    (sweep e.direction e.number (market_price t e.direction) (listed (opposite e.direction) day.table) e.volume))
+
+-- what is left of a market order stands, and does not lapse
+abbrev pub never_lapse : Step
+never_lapse =
+    dealing_by
+    (λ t day e.
+    let s : Swept = sweep e.direction e.number e.price (listed (opposite e.direction) day.table) e.volume in
+    done
+    (record { stage = day.stage; tally = e.number; table = placed e s.left (dealt e.direction s.rest day.table) })
+    (Entered e.number (e.volume - s.left) s.left (length s.slips)) s.slips)
+
+abbrev trades_by : (ℕ → ℕ) → (ℕ → ℕ) → List Slip → List Slip
+trades_by price volume [] = []
+trades_by price volume (Trade b s q v ∷ ss) = Trade b s (price q) (volume v) ∷ trades_by price volume ss
+trades_by price volume (Lapse n v ∷ ss) = Lapse n v ∷ trades_by price volume ss
+
+-- the rules with other trade slips in Open
+abbrev slips_by : (Order → List Slip → List Slip) → Step
+slips_by f =
+    dealing_by
+    (λ t day e.
+    let s : Swept = sweep e.direction e.number e.price (listed (opposite e.direction) day.table) e.volume in
+    arrive day.stage e.number e day.table (Entered e.number)
+    (record { slips = f e s.slips; rest = s.rest; left = s.left }))
+
+-- an entering order trades at its own price
+abbrev pub own_price : Step
+own_price = slips_by (λ e ss. trades_by (λ q. e.price) (λ v. v) ss)
+
+-- a trade is for one less than the smaller of the two
+abbrev pub short_trade : Step
+short_trade = slips_by (λ e ss. trades_by (λ q. q) (λ v. v - 1) ss)
+
+-- in Open nothing trades
+abbrev pub never_trades : Step
+never_trades = dealing_by (λ t day e. queue day.stage e.number e day.table (Entered e.number))
+
+abbrev half_of_first : List Order → List Order
+half_of_first [] = []
+half_of_first (o ∷ os) = with_volume (o.volume / 2) o ∷ os
+
+-- the first order of the other side trades, and half of it stays
+abbrev pub half_stays : Step
+half_stays =
+    dealing_by
+    (λ t day e.
+    let against : List Order = listed (opposite e.direction) day.table in
+    let s : Swept = sweep e.direction e.number e.price against e.volume in
+    arrive day.stage e.number e day.table (Entered e.number)
+    (record { slips = s.slips; rest = half_of_first against; left = s.left }))
+
+abbrev of_nothing : Direction → ℕ → List Order → List Slip → List Slip
+of_nothing d n [] ss = ss
+of_nothing d n (o ∷ os) ss = trade d n o.number o.price 0 ∷ ss
+
+-- an entering order first trades nothing with the first of the other side
+abbrev pub empty_trade : Step
+empty_trade =
+    dealing_by
+    (λ t day e.
+    let against : List Order = listed (opposite e.direction) day.table in
+    let s : Swept = sweep e.direction e.number e.price against e.volume in
+    arrive day.stage e.number e day.table (Entered e.number)
+    (record { slips = of_nothing e.direction e.number against s.slips; rest = s.rest; left = s.left }))
+
+-- Rank ------------------------------------------------------------------------------------------------------------------
+
+-- before all at its price
+abbrev ahead : Direction → Order → List Order → List Order
+ahead d o [] = o ∷ []
+ahead d o (x ∷ xs) = cond (better d x.price o.price) (x ∷ ahead d o xs) (o ∷ (x ∷ xs))
+
+-- outside Open the last comer stands first at its price
+abbrev pub last_first : Step
+last_first t day (Enter member d limit volume) room =
+    let e : Order = entering t (suc day.tally) member d limit volume in
+    let b : Book = day.table.book in
+    cond (is_open day.stage) (step t day (Enter member d limit volume) room)
+    (done
+    (record { stage = day.stage; tally = e.number; table = holding day.table (with_side d (ahead d e (side d b)) b) })
+    (Entered e.number 0 volume 0) [])
+last_first t day (Alter member n price volume) room = step t day (Alter member n price volume) room
+last_first t day (Withdraw member n) room = step t day (Withdraw member n) room
+last_first t day Advance room = step t day Advance room
+
+abbrev priced_at : ℕ → Order → Order
+priced_at p o =
+    record {
+      number = o.number;
+      member = o.member;
+      direction = o.direction;
+      price = p;
+      market = o.market;
+      volume = o.volume;
+      arrival = o.arrival;
+    }
+
+-- an alter leaves price, place and arrival as they are, and sets the volume
+abbrev pub old_arrival : Step
+old_arrival t day (Enter member d limit volume) room = step t day (Enter member d limit volume) room
+old_arrival t day (Alter member n price volume) room =
+    done (record { stage = day.stage; tally = day.tally; table = volume_set n volume day.table })
+    (Altered 0 volume 0) []
+old_arrival t day (Withdraw member n) room = step t day (Withdraw member n) room
+old_arrival t day Advance room = step t day Advance room
+
+-- a market buy has the lowest price of the band, and a market sell the highest
+abbrev pub exchanged_ends : Step
+exchanged_ends t day (Enter member d (Some p) volume) room = step t day (Enter member d (Some p) volume) room
+exchanged_ends t day (Enter member d None volume) room =
+    let o : Order = entering t (suc day.tally) member d None volume in
+    enter day (priced_at (market_price t (opposite d)) o)
+exchanged_ends t day (Alter member n price volume) room = step t day (Alter member n price volume) room
+exchanged_ends t day (Withdraw member n) room = step t day (Withdraw member n) room
+exchanged_ends t day Advance room = step t day Advance room
+
+-- the first two change places
+abbrev swapped : List Order → List Order
+swapped [] = []
+swapped (x ∷ []) = x ∷ []
+swapped (x ∷ (y ∷ xs)) = y ∷ (x ∷ xs)
+
+-- an entering order passes the first over
+abbrev pub passed_over : Step
+passed_over =
+    dealing_by
+    (λ t day e.
+    arrive day.stage e.number e day.table (Entered e.number)
+    (sweep e.direction e.number e.price (swapped (listed (opposite e.direction) day.table)) e.volume))
+
+abbrev one_less : Answer → Answer
+one_less (Entered n traded held slips) = Entered n traded held slips
+one_less (Altered traded held slips) = Altered traded held slips
+one_less (Withdrawn v slips) = Withdrawn (v - 1) slips
+one_less (Advanced stage price traded slips) = Advanced stage price traded slips
+
+-- withdraw answers less than it takes
+abbrev pub part_withdrawal : Step
+part_withdrawal t day c room = answering one_less (step t day c room)
+
+abbrev with_price : Answer → Answer
+with_price (Entered n traded held slips) = Entered n traded held slips
+with_price (Altered traded held slips) = Altered traded held slips
+with_price (Withdrawn v slips) = Withdrawn v slips
+with_price (Advanced stage None traded slips) = Advanced stage (Some 1) traded slips
+with_price (Advanced stage (Some p) traded slips) = Advanced stage (Some p) traded slips
+
+-- there is always a price
+abbrev pub always_priced : Step
+always_priced t day c room = answering with_price (step t day c room)
+
+-- Refusals --------------------------------------------------------------------------------------------------------------
+
+abbrev emptied : Came → Verdict → Came
+emptied c (refused n) = record { result = refused n; book = empty }
+emptied c (accepted a slips) = c
+
+-- after a refusal the book is empty
+abbrev pub forgetful : Engine
+forgetful t cap past x = let c : Came = model t cap past x in emptied c c.result
+
+abbrev pub FailsToo : Engine → Type 0
+FailsToo e = Law e → ⊥
+
+-- refuses every call: the law has no word on what is to be accepted
+abbrev pub refusing : Engine
+refusing t cap past x = record { result = refused 3; book = empty }
+
+abbrev backwards : List Slip → List Slip → List Slip
+backwards [] ys = ys
+backwards (x ∷ xs) ys = backwards xs (x ∷ ys)
+
+-- of the market orders that are left, the last lapses first
+abbrev last_lapses : Terms → Day → Outcome
+last_lapses t day =
+    let b : Book = day.table.book in
+    let price : Option ℕ = fixing_price t b in
+    let m : Paired = match_at price b.buys b.sells in
+    let slips : List Slip = m.slips ++ backwards (lapses m.buys ++ lapses m.sells) [] in
+    done
+    (record {
+      stage = next day.stage;
+      tally = day.tally;
+      table = holding day.table (book_of (limits m.buys) (limits m.sells));
+    })
+    (Advanced (next day.stage) price (turnover slips) (length slips)) slips
+
+abbrev pub lapse_backwards : Step
+lapse_backwards = striking last_lapses

@@ -1,0 +1,16 @@
+pub mod Exactly
+pub mod Rules
+pub mod Ledger
+pub mod Day
+pub mod Law
+pub mod Model
+pub mod Room
+pub mod Places
+pub mod Splits
+pub mod Marks
+pub mod Flaws
+pub mod Pinned
+pub mod Journal
+pub mod Leads
+pub mod Ending
+pub mod Worked

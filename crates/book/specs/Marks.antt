@@ -1,0 +1,70 @@
+-- What the next reference price needs, kept beside the day: no part of the law reads it.
+use Rattle.std.specs.Prelude.{ℕ, Bool, false, ◌&&◌, List, [], ◌∷◌, Some, None, Option, ◌==◌}
+use Rattle.book.specs.declared.stage.Stage.{Stage}
+use Rattle.book.specs.declared.stage.Stage.TheVariants.{PreOpen, Open, PreClose, Closed}
+use Rattle.rules.specs.declared.order.Order.{Order}
+use Rattle.rules.specs.declared.terms.Terms.{Terms}
+use Rattle.book.specs.declared.slip.Slip.{Slip}
+use Rattle.book.specs.declared.slip.Slip.TheVariants.{Trade, Lapse}
+use Rattle.book.specs.declared.call.Call.{Call}
+use Rattle.book.specs.declared.call.Call.TheVariants.{Enter, Alter, Withdraw, Advance}
+use Rattle.rules.specs.declared.reference.DayRecord.{DayRecord}
+use Rattle.tables.specs.Meaning.{Capacity}
+use Rattle.book.specs.Model.{moved}
+use Rattle.book.specs.Day.{Day, new, Outcome, refused_by, done}
+
+abbrev pub unmarked : DayRecord
+unmarked = record { last_trade = None; buy_at_high = false; sell_at_low = false }
+
+-- the price of the last trade
+abbrev pub last_price : Option ℕ → List Slip → Option ℕ
+last_price p [] = p
+last_price p (Trade b s q v ∷ ss) = last_price (Some q) ss
+last_price p (Lapse n v ∷ ss) = last_price p ss
+
+-- the first order stands at this price
+abbrev pub first_at : ℕ → List Order → Bool
+first_at p [] = false
+first_at p (o ∷ os) = o.price == p
+
+-- right after the opening strike a mark begins, and after each other call in Open it goes on or ends
+abbrev pub mark_on : Stage → Call → Bool → Bool → Bool
+mark_on PreOpen Advance old now' = now'
+mark_on Open (Enter member d limit volume) old now' = old && now'
+mark_on Open (Alter member n price volume) old now' = old && now'
+mark_on Open (Withdraw member n) old now' = old && now'
+mark_on Open Advance old now' = old
+mark_on PreOpen (Enter member d limit volume) old now' = old
+mark_on PreOpen (Alter member n price volume) old now' = old
+mark_on PreOpen (Withdraw member n) old now' = old
+mark_on PreClose c old now' = old
+mark_on Closed c old now' = old
+
+-- the marks after a call that was made in this stage
+abbrev pub marked : Terms → Stage → Call → DayRecord → Outcome → DayRecord
+marked t stage c m (refused_by n) = m
+marked t stage c m (done day a slips) =
+    record {
+      last_trade = last_price m.last_trade slips;
+      buy_at_high = mark_on stage c m.buy_at_high (first_at t.hi day.table.book.buys);
+      sell_at_low = mark_on stage c m.sell_at_low (first_at t.lo day.table.book.sells);
+    }
+
+-- a session that was ended before Closed leaves nothing
+abbrev pub left_by : Stage → DayRecord → Option DayRecord
+left_by PreOpen m = None
+left_by Open m = None
+left_by PreClose m = None
+left_by Closed m = Some m
+
+-- a session: its day, and the marks of it
+pub record Session : Type 0 where
+  pub day : Day
+  pub marks : DayRecord
+
+abbrev pub begun : Capacity → Session
+begun cap = record { day = new cap; marks = unmarked }
+
+-- the session after a call with this outcome
+abbrev pub worked : Terms → Call → Session → Outcome → Session
+worked t c s out = record { day = moved s.day out; marks = marked t s.day.stage c s.marks out }
