@@ -1,10 +1,11 @@
 -- The next reference price in the words of a journal, and that the marks of the day come to the same.
-use Rattle.std.specs.Prelude.{◌≡◌, ℕ, Bool, true, false, cond, ◌&&◌, List, [], ◌∷◌, Some, None, Option}
+use Rattle.std.specs.Prelude.{◌≡◌, ℕ, Bool, true, false, cond, ◌&&◌, List, [], ◌∷◌, Some, None, Option, ◌==◌}
 use Rattle.std.specs.Option.{option_or, unwrap_or}
 use Rattle.rules.specs.Book.{Book, side}
 use Rattle.rules.specs.Reference.{next_reference_under}
 use Rattle.rules.specs.declared.order.Direction.{Direction}
 use Rattle.rules.specs.declared.order.Direction.TheVariants.{Buy, Sell}
+use Rattle.rules.specs.declared.order.Order.{Order}
 use Rattle.rules.specs.declared.terms.Terms.{Terms}
 use Rattle.tables.specs.Meaning.{Capacity}
 use Rattle.book.specs.declared.call.Call.{Call}
@@ -16,7 +17,7 @@ use Rattle.book.specs.declared.stage.Stage.TheVariants.{PreOpen, Open, PreClose,
 use Rattle.book.specs.Journal.{Line, books}
 use Rattle.book.specs.Law.{Verdict, refused, accepted}
 use Rattle.book.specs.Leads.{Leads}
-use Rattle.book.specs.Marks.{Session, first_at, left_by}
+use Rattle.book.specs.Marks.{Session, left_by}
 
 -- In the journal's words ----------------------------------------------------------------------------------------------
 
@@ -48,10 +49,20 @@ looked Open Advance = false
 looked PreClose c = false
 looked Closed c = false
 
--- where an accepted call is looked at, the best order of side d stood at p
+-- the price of the best order of a side, which is the first listed
+abbrev pub best_price : List Order → Option ℕ
+best_price [] = None
+best_price (o ∷ os) = Some o.price
+
+-- a best price is there, and it is p
+abbrev pub is_price : ℕ → Option ℕ → Bool
+is_price p None = false
+is_price p (Some q) = q == p
+
+-- where an accepted call is looked at, the best price of side d was p
 abbrev pub stood_at : Direction → ℕ → Bool → Verdict → Book → Bool
 stood_at d p look (refused n) b = true
-stood_at d p look (accepted a slips) b = cond look (first_at p (side d b)) true
+stood_at d p look (accepted a slips) b = cond look (is_price p (best_price (side d b))) true
 
 -- so throughout the journal
 abbrev pub throughout : Terms → Direction → ℕ → List Line → Bool
