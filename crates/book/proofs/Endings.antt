@@ -21,7 +21,7 @@ use Rattle.book.specs.Law.{Try}
 use Rattle.book.specs.Leads.{outcome, Leads}
 use Rattle.book.specs.Marks.{Session, worked, last_price, first_at, mark_on, marked, left_by}
 use Rattle.book.specs.Model.{moved, came}
-use Rattle.book.specs.Ending.{last_in, last_traded, best_price, is_price, looked, throughout, reference_at, EndsByJournal}
+use Rattle.book.specs.Ending.{last_in, last_traded, best_listed, is_price, looked, throughout, reference_at, EndsByJournal}
 use Rattle.book.specs.Law.{fed}
 use Rattle.book.specs.Ledger.{Ledger, following, feed, alter_account, renews, renew, keep}
 use Rattle.book.proofs.Kept.{post_stage}
@@ -76,12 +76,12 @@ marks_on Closed (Withdraw member n) mark now' stood h = h
 marks_on Closed Advance mark now' stood h = h
 
 -- the first order stands at p exactly if the best price is p
-best_is : (p : ℕ) (os : List Order) → first_at p os ≡ is_price p (best_price os)
+best_is : (p : ℕ) (os : List Order) → first_at p os ≡ is_price p (best_listed os)
 best_is p [] = refl
 best_is p (o ∷ os) = refl
 
 marks_best : (stage : Stage) (c : Call) (mark stood : Bool) (p : ℕ) (os : List Order) → Marked stage mark stood
-    → Marked (stage_after stage c) (mark_on stage c mark (first_at p os)) (cond (looked stage c) (is_price p (best_price os)) true && stood)
+    → Marked (stage_after stage c) (mark_on stage c mark (first_at p os)) (cond (looked stage c) (is_price p (best_listed os)) true && stood)
 marks_best stage c mark stood p os h =
     subst (λ b. Marked (stage_after stage c) (mark_on stage c mark (first_at p os)) (cond (looked stage c) b true && stood)) (best_is p os)
     (marks_on stage c mark (first_at p os) stood h)
@@ -119,12 +119,12 @@ module _ (t : Terms) (past : List Line) (b : Session) (x : Try) (g : Told t past
       record {
         last = last_is b.marks.last_trade slips ∙ ap (option_or (last_in slips)) g.last;
         high =
-            subst (λ s. Marked s (mark_on b.day.stage x.call b.marks.buy_at_high (first_at t.hi after.table.book.buys)) (cond (looked L.stage x.call) (is_price t.hi (best_price after.table.book.buys)) true && throughout t Buy t.hi past)) from
-            (subst (λ s. Marked (stage_after b.day.stage x.call) (mark_on b.day.stage x.call b.marks.buy_at_high (first_at t.hi after.table.book.buys)) (cond (looked s x.call) (is_price t.hi (best_price after.table.book.buys)) true && throughout t Buy t.hi past)) same
+            subst (λ s. Marked s (mark_on b.day.stage x.call b.marks.buy_at_high (first_at t.hi after.table.book.buys)) (cond (looked L.stage x.call) (is_price t.hi (best_listed after.table.book.buys)) true && throughout t Buy t.hi past)) from
+            (subst (λ s. Marked (stage_after b.day.stage x.call) (mark_on b.day.stage x.call b.marks.buy_at_high (first_at t.hi after.table.book.buys)) (cond (looked s x.call) (is_price t.hi (best_listed after.table.book.buys)) true && throughout t Buy t.hi past)) same
             (marks_best b.day.stage x.call b.marks.buy_at_high (throughout t Buy t.hi past) t.hi after.table.book.buys g.high));
         low =
-            subst (λ s. Marked s (mark_on b.day.stage x.call b.marks.sell_at_low (first_at t.lo after.table.book.sells)) (cond (looked L.stage x.call) (is_price t.lo (best_price after.table.book.sells)) true && throughout t Sell t.lo past)) from
-            (subst (λ s. Marked (stage_after b.day.stage x.call) (mark_on b.day.stage x.call b.marks.sell_at_low (first_at t.lo after.table.book.sells)) (cond (looked s x.call) (is_price t.lo (best_price after.table.book.sells)) true && throughout t Sell t.lo past)) same
+            subst (λ s. Marked s (mark_on b.day.stage x.call b.marks.sell_at_low (first_at t.lo after.table.book.sells)) (cond (looked L.stage x.call) (is_price t.lo (best_listed after.table.book.sells)) true && throughout t Sell t.lo past)) from
+            (subst (λ s. Marked (stage_after b.day.stage x.call) (mark_on b.day.stage x.call b.marks.sell_at_low (first_at t.lo after.table.book.sells)) (cond (looked s x.call) (is_price t.lo (best_listed after.table.book.sells)) true && throughout t Sell t.lo past)) same
             (marks_best b.day.stage x.call b.marks.sell_at_low (throughout t Sell t.lo past) t.lo after.table.book.sells g.low));
       }
 

@@ -50,9 +50,9 @@ looked PreClose c = false
 looked Closed c = false
 
 -- the price of the best order of a side, which is the first listed
-abbrev pub best_price : List Order → Option ℕ
-best_price [] = None
-best_price (o ∷ os) = Some o.price
+abbrev pub best_listed : List Order → Option ℕ
+best_listed [] = None
+best_listed (o ∷ os) = Some o.price
 
 -- a best price is there, and it is p
 abbrev pub is_price : ℕ → Option ℕ → Bool
@@ -62,7 +62,7 @@ is_price p (Some q) = q == p
 -- where an accepted call is looked at, the best price of side d was p
 abbrev pub stood_at : Direction → ℕ → Bool → Verdict → Book → Bool
 stood_at d p look (refused n) b = true
-stood_at d p look (accepted a slips) b = cond look (is_price p (best_price (side d b))) true
+stood_at d p look (accepted a slips) b = cond look (is_price p (best_listed (side d b))) true
 
 -- so throughout the journal
 abbrev pub throughout : Terms → Direction → ℕ → List Line → Bool

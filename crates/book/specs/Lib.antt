@@ -4,6 +4,7 @@ pub mod Ledger
 pub mod Day
 pub mod Law
 pub mod Model
+pub mod Refusals
 pub mod Room
 pub mod Places
 pub mod Splits

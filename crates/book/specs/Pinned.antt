@@ -1,4 +1,5 @@
--- The law leaves nothing open but the refusals: two lawful engines that refuse the same tries answer the same.
+-- The law leaves nothing open but the refusals: two lawful engines that refuse the same tries with the same numbers answer
+-- the same.
 use Rattle.std.specs.Prelude.{◌≡◌, ℕ, List, Some, None, Option}
 use Rattle.rules.specs.declared.terms.Terms.{Terms}
 use Rattle.tables.specs.Meaning.{Capacity}

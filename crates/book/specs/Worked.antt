@@ -1,5 +1,5 @@
--- A day worked by the rules, call after call.
-use Rattle.std.specs.Prelude.{◌≡◌, List, [], ◌∷◌, Some, None, refl}
+-- Days worked by the rules, call after call.
+use Rattle.std.specs.Prelude.{◌≡◌, ℕ, List, [], ◌∷◌, Some, None, refl}
 use Rattle.std.proofs.Common.{lit≤}
 use Rattle.rules.specs.Reference.{next_reference_under}
 use Rattle.rules.specs.declared.order.Direction.TheVariants.{Buy, Sell}
@@ -7,7 +7,7 @@ use Rattle.rules.specs.declared.terms.Terms.{Terms}
 use Rattle.tables.specs.Meaning.{Capacity}
 use Rattle.book.specs.declared.answer.Answer.TheVariants.{Entered, Advanced}
 use Rattle.book.specs.declared.call.Call.{Call}
-use Rattle.book.specs.declared.call.Call.TheVariants.{Enter, Advance}
+use Rattle.book.specs.declared.call.Call.TheVariants.{Enter, Withdraw, Advance}
 use Rattle.book.specs.declared.slip.Slip.TheVariants.{Trade, Lapse}
 use Rattle.book.specs.declared.stage.Stage.TheVariants.{Open, PreClose, Closed}
 use Rattle.book.specs.Law.{Try, Verdict, refused, accepted}
@@ -15,7 +15,7 @@ use Rattle.book.specs.Leads.{outcome}
 use Rattle.book.specs.Marks.{Session, begun, worked, left_by}
 use Rattle.book.specs.Model.{result}
 
--- reference price 1000, block 10
+-- reference price 1000, block 10, and so the band 700 to 1300; the last six are the facts that every terms has
 abbrev pub terms_of_the_day : Terms
 terms_of_the_day =
     record {
@@ -35,9 +35,11 @@ terms_of_the_day =
 abbrev pub places : Capacity
 places = record { places = 128 }
 
+-- a call with that run
 abbrev pub with_run : Call → Try
 with_run c = record { call = c; room = 512 }
 
+-- the day's calls, the first first
 abbrev pub calls : List Call
 calls =
     Enter 1 Buy (Some 1050) 40
@@ -49,14 +51,17 @@ calls =
     ∷ Advance
     ∷ []
 
+-- what comes of calls from a session on
 abbrev pub results : Terms → Session → List Call → List Verdict
 results t s [] = []
 results t s (c ∷ cs) = result (outcome t s.day (with_run c)) ∷ results t (worked t c s (outcome t s.day (with_run c))) cs
 
+-- the session after calls
 abbrev pub all_worked : Terms → Session → List Call → Session
 all_worked t s [] = s
 all_worked t s (c ∷ cs) = all_worked t (worked t c s (outcome t s.day (with_run c))) cs
 
+-- what should come of the day's calls
 abbrev pub expected : List Verdict
 expected =
     accepted (Entered 1 0 40 0) []
@@ -68,9 +73,23 @@ expected =
     ∷ accepted (Advanced Closed None 0 0) []
     ∷ []
 
-abbrev pub last_session : Session
-last_session = all_worked terms_of_the_day (begun places) calls
+-- the next reference price that a day of these calls leaves
+abbrev pub left_after : List Call → ℕ
+left_after cs =
+    let s : Session = all_worked terms_of_the_day (begun places) cs in
+    next_reference_under terms_of_the_day (left_by s.day.stage s.marks)
 
+-- the three calls that end a day
+abbrev pub advances : List Call
+advances = Advance ∷ Advance ∷ Advance ∷ []
+
+-- the day above; then days without a trade: an order at the end of the band that stands from the opening on, one that is
+-- 10 off it, one that comes only after the opening, and one that leaves in Open
 pub record WorkedDay : Type 0 where
   pub answers : results terms_of_the_day (begun places) calls ≡ expected
-  pub reference : next_reference_under terms_of_the_day (left_by last_session.day.stage last_session.marks) ≡ 1050
+  pub reference : left_after calls ≡ 1050
+  pub buy_at_high : left_after (Enter 1 Buy (Some 1300) 40 ∷ advances) ≡ 1300
+  pub sell_at_low : left_after (Enter 1 Sell (Some 700) 40 ∷ advances) ≡ 700
+  pub buy_below : left_after (Enter 1 Buy (Some 1290) 40 ∷ advances) ≡ 1000
+  pub buy_late : left_after (Advance ∷ Enter 1 Buy (Some 1300) 40 ∷ Advance ∷ Advance ∷ []) ≡ 1000
+  pub buy_gone : left_after (Enter 1 Buy (Some 1300) 40 ∷ Advance ∷ Withdraw 1 1 ∷ Advance ∷ Advance ∷ []) ≡ 1000

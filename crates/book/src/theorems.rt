@@ -6,6 +6,7 @@ ghost use Rattle.book.specs.Leads.{GoingOn};
 ghost use Rattle.book.specs.Model.{model};
 ghost use Rattle.book.specs.Pinned.{Pinned};
 ghost use Rattle.book.specs.Places.{TakesByPlaces};
+ghost use Rattle.book.specs.Refusals.{RefusalsByExample};
 ghost use Rattle.book.specs.Room.{Room};
 ghost use Rattle.book.specs.Splits.{SlipsAtSplits};
 ghost use Rattle.book.specs.Worked.{WorkedDay};
@@ -16,7 +17,7 @@ pub fn law_stands()
     ensures { Law model }
 {}
 
-// Two lawful engines that refuse the same tries are the same: the law leaves nothing else open.
+// Two lawful engines that refuse the same tries with the same numbers are the same: the law leaves nothing else open.
 pub fn law_pins()
     ensures { Pinned }
 {}
@@ -56,8 +57,14 @@ pub fn reference_of_the_journal()
     ensures { EndsByJournal }
 {}
 
-// A day worked by the rules.
+// Days worked by the rules: one that trades, and days without a trade that end at each of the reference prices.
 #[tactic(auto, using(crate::proofs::Example::worked_day))]
 pub fn worked_day_holds()
     ensures { WorkedDay }
+{}
+
+// A call for each refusal, and of two refusals that meet the first.
+#[tactic(auto, using(crate::proofs::Example::refusals))]
+pub fn refusals_by_example()
+    ensures { RefusalsByExample }
 {}

@@ -1,0 +1,70 @@
+-- The refusals by example: a call for each row, and calls that meet two rows, of which the first answers.
+use Rattle.std.specs.Prelude.{◌≡◌, ℕ, List, [], ◌∷◌, Some, None}
+use Rattle.rules.specs.declared.order.Direction.TheVariants.{Buy, Sell}
+use Rattle.tables.specs.Meaning.{Capacity}
+use Rattle.book.specs.declared.call.Call.{Call}
+use Rattle.book.specs.declared.call.Call.TheVariants.{Enter, Alter, Withdraw, Advance}
+use Rattle.book.specs.Day.{Day, refused_by, step}
+use Rattle.book.specs.Marks.{begun}
+use Rattle.book.specs.Worked.{terms_of_the_day, places, all_worked, advances}
+
+-- on this day, with so many places in the run, the call is refused with this number
+abbrev pub Refuses : Day → ℕ → Call → ℕ → Type 0
+Refuses day room c n = step terms_of_the_day day c room ≡ refused_by n
+
+-- the day after calls, of tables with so many places
+abbrev pub after_calls : Capacity → List Call → Day
+after_calls cap cs = (all_worked terms_of_the_day (begun cap) cs).day
+
+-- one place for each side
+abbrev pub one_place : Capacity
+one_place = record { places = 1 }
+
+-- a buy limited to 1000 is number 1 and member 1's, a market sell number 2 and member 2's
+abbrev pub two_held : List Call
+two_held = Enter 1 Buy (Some 1000) 40 ∷ Enter 2 Sell None 20 ∷ []
+
+-- both in Pre-open
+abbrev pub morning : Day
+morning = after_calls places two_held
+
+-- in Open a buy limited to 1000 fills its side's one place
+abbrev pub trading : Day
+trading = after_calls one_place (Enter 1 Buy (Some 1000) 40 ∷ Advance ∷ [])
+
+abbrev pub evening : Day
+evening = after_calls places advances
+
+-- the last arrival of a day is given
+abbrev pub given_out : Day → Day
+given_out day = record { stage = day.stage; tally = 1000000; table = day.table }
+
+pub record RefusalsByExample : Type 0 where
+  -- row by row
+  pub closed : Refuses evening 512 (Enter 1 Buy (Some 1000) 40) 3
+  pub member_none : Refuses morning 512 (Enter 0 Buy (Some 1000) 40) 4
+  pub member_over : Refuses morning 512 (Withdraw 17 1) 4
+  pub no_volume : Refuses morning 512 (Enter 1 Buy (Some 1000) 0) 5
+  pub great_volume : Refuses morning 512 (Enter 1 Buy (Some 1000) 100000010) 5
+  pub part_block : Refuses morning 512 (Alter 1 1 1000 45) 5
+  pub above_band : Refuses morning 512 (Enter 1 Buy (Some 1301) 40) 6
+  pub below_band : Refuses morning 512 (Alter 1 1 699 40) 6
+  pub not_held : Refuses morning 512 (Withdraw 1 3) 7
+  pub of_another : Refuses morning 512 (Withdraw 2 1) 8
+  pub market_order : Refuses morning 512 (Alter 2 2 1000 20) 9
+  pub all_given : Refuses (given_out morning) 512 (Enter 1 Buy (Some 1000) 40) 10
+  pub side_full : Refuses trading 512 (Enter 2 Buy (Some 1000) 40) 11
+  pub run_short_enter : Refuses trading 1 (Enter 2 Sell (Some 1000) 40) 12
+  pub run_short_alter : Refuses trading 0 (Alter 1 1 1010 40) 12
+  pub run_short_strike : Refuses morning 1 Advance 12
+  -- two rows at once
+  pub closed_before_member : Refuses evening 512 (Enter 17 Buy (Some 1000) 40) 3
+  pub member_before_held : Refuses morning 512 (Withdraw 17 3) 4
+  pub band_before_market : Refuses morning 512 (Alter 2 2 1301 20) 6
+  pub another_before_market : Refuses morning 512 (Alter 1 2 1000 20) 8
+  pub given_before_full : Refuses (given_out trading) 512 (Enter 2 Buy (Some 1000) 40) 10
+  -- an alter too, though it would need no new arrival
+  pub given_of_alter : Refuses (given_out morning) 512 (Alter 1 1 1000 30) 10
+  pub full_before_run : Refuses trading 0 (Enter 2 Buy (Some 1000) 40) 11
+  -- an alter in Open that only lowers, and so trades nothing
+  pub run_where_lowered : Refuses trading 0 (Alter 1 1 1000 30) 12
