@@ -17,6 +17,7 @@ use Rattle.book.specs.Exactly.{Before}
 use Rattle.book.specs.Day.{entering}
 use Rattle.book.specs.Law.{Entering, Try, ledger, continuous, fixing_at, TradeRight, LapseRight}
 use Rattle.book.specs.Model.{engine}
+use Rattle.book.specs.Worked.{terms_of_the_day}
 use Rattle.book.proofs.Members.{listing}
 use Rattle.book.proofs.Ranks.{no_later}
 use Rattle.std.proofs.lemmas.Bool.{leb-true}
@@ -30,6 +31,8 @@ use Rattle.book.specs.Flaws.{
   no_count,
   blind,
   two_steps,
+  surplus_ignored,
+  outside_band,
   standing_prices,
   lapse_first,
   above_limit,
@@ -41,7 +44,7 @@ use Rattle.book.specs.Flaws.{
   part_withdrawal,
   always_priced,
   forgetful,
-  FailsToo,
+  Unlawful,
   half_stays,
   empty_trade,
   lower_price,
@@ -49,18 +52,7 @@ use Rattle.book.specs.Flaws.{
 }
 
 abbrev t : Terms
-t = record {
-  reference = 1000;
-  block = 10;
-  lo = 700;
-  hi = 1300;
-  priced = (lit≤ tt, lit≤ tt);
-  blocked = (lit≤ tt, lit≤ tt);
-  floor = refl;
-  ceiling = refl;
-  low = lit≤ tt;
-  high = lit≤ tt;
-}
+t = terms_of_the_day
 
 abbrev cap : Capacity
 cap = record { places = 4 }
@@ -102,6 +94,24 @@ pub two_steps_fails : Fails two_steps
 two_steps_fails law =
     let u = law t cap two_orders (try Advance) in
     let e : 10 ≤ 0 = u.fixing.1.nearest 1000 (lit≤ tt) (lit≤ tt) refl refl in
+    omega (arith, e)
+
+-- 1000 is nearest of the prices that trade all, and leaves a surplus of 20, where 1001 leaves none
+pub surplus_ignored_fails : Fails surplus_ignored
+surplus_ignored_fails law =
+    let u =
+    law t cap
+    (try (Enter 3 Sell (Some 990) 20) ∷ (try (Enter 2 Buy (Some 1000) 20) ∷ (try (Enter 1 Buy (Some 1010) 20) ∷ [])))
+    (try Advance)
+    in
+    let e : 20 ≤ 0 = u.fixing.1.smallest 1001 (lit≤ tt) (lit≤ tt) refl in
+    omega (arith, e)
+
+-- 1301 is no price of the band, which ends at 1300
+pub outside_band_fails : Fails outside_band
+outside_band_fails law =
+    let u = law t cap [] (try Advance) in
+    let e : 1301 ≤ 1300 = u.fixing.1.high in
     omega (arith, e)
 
 -- 1010 is the best price at which an order stands, and 1001 is nearer
@@ -224,7 +234,7 @@ always_priced_fails law =
     omega (arith, e)
 
 -- an order that stood is gone after a refusal
-pub forgetful_fails : FailsToo forgetful
+pub forgetful_fails : Unlawful forgetful
 forgetful_fails law =
     let u = law t cap (try (Enter 1 Buy (Some 1000) 10) ∷ []) (try (Enter 1 Buy (Some 1400) 10)) in
     absurd

@@ -1,5 +1,5 @@
--- Rules with one flaw each. The law must fail of every one of them.
-use Rattle.std.specs.Prelude.{fold, ltb, ℕ, zero, suc, ◌+◌, ◌-◌, ◌/◌, Bool, cond, List, [], ◌∷◌, ◌++◌, length, Some, None, Option}
+-- Rules with a flaw, most without the refusals that do not matter to it: the law must fail of each.
+use Rattle.std.specs.Prelude.{fold, ltb, ℕ, zero, suc, ◌+◌, ◌-◌, ◌/◌, Bool, cond, ◌&&◌, nat_le, List, [], ◌∷◌, ◌++◌, length, Some, None, Option}
 use Rattle.std.specs.Option.{option_map, unwrap_or}
 use Rattle.rules.specs.Book.{Book, side}
 use Rattle.rules.specs.Curve.{candidate}
@@ -20,16 +20,22 @@ use Rattle.book.specs.declared.slip.Slip.TheVariants.{Trade, Lapse}
 use Rattle.book.specs.declared.call.Call.TheVariants.{Enter, Alter, Withdraw, Advance}
 use Rattle.book.specs.declared.answer.Answer.{Answer}
 use Rattle.book.specs.declared.answer.Answer.TheVariants.{Entered, Altered, Withdrawn, Advanced}
-use Rattle.rules.specs.Side.{better, opposite}
+use Rattle.rules.specs.Side.{better, opposite, willing}
+use Rattle.book.specs.Ledger.{rewritten}
 use Rattle.book.specs.Rules.{market_price, next}
 use Rattle.book.specs.Law.{Law, Engine, Came, Verdict, refused, accepted}
 use Rattle.book.specs.Day.{Day, entering, Outcome, refused_by, done, step, enter, trade, is_open, arrive, queue, placed, dealt, Swept, sweep, fixing_price, Paired, match_at, lapses, limits, struck, turnover}
 use Rattle.book.specs.Model.{Step, engine, model}
 
-abbrev pub Fails : Step → Type 0
-Fails f = Law (engine f) → ⊥
+-- the law fails of this engine
+abbrev pub Unlawful : Engine → Type 0
+Unlawful e = Law e → ⊥
 
--- Answers ---------------------------------------------------------------------------------------------------------------
+-- and of these rules
+abbrev pub Fails : Step → Type 0
+Fails f = Unlawful (engine f)
+
+-- Answers -------------------------------------------------------------------------------------------------------------
 
 abbrev pub answering : (Answer → Answer) → Outcome → Outcome
 answering f (refused_by n) = refused_by n
@@ -65,7 +71,28 @@ no_volume_of (Advanced stage price traded slips) = Advanced stage price 0 slips
 abbrev pub no_volume : Step
 no_volume t day c room = answering no_volume_of (step t day c room)
 
--- Strikes ---------------------------------------------------------------------------------------------------------------
+abbrev one_less : Answer → Answer
+one_less (Entered n traded held slips) = Entered n traded held slips
+one_less (Altered traded held slips) = Altered traded held slips
+one_less (Withdrawn v slips) = Withdrawn (v - 1) slips
+one_less (Advanced stage price traded slips) = Advanced stage price traded slips
+
+-- withdraw answers less than it takes
+abbrev pub part_withdrawal : Step
+part_withdrawal t day c room = answering one_less (step t day c room)
+
+abbrev with_price : Answer → Answer
+with_price (Entered n traded held slips) = Entered n traded held slips
+with_price (Altered traded held slips) = Altered traded held slips
+with_price (Withdrawn v slips) = Withdrawn v slips
+with_price (Advanced stage None traded slips) = Advanced stage (Some 1) traded slips
+with_price (Advanced stage (Some p) traded slips) = Advanced stage (Some p) traded slips
+
+-- there is always a price
+abbrev pub always_priced : Step
+always_priced t day c room = answering with_price (step t day c room)
+
+-- Strikes -------------------------------------------------------------------------------------------------------------
 
 abbrev striking_at : (Day → Outcome) → Terms → Day → ℕ → Stage → Outcome
 striking_at f t day room PreOpen = f day
@@ -93,22 +120,35 @@ fixing_by f =
 abbrev pub blind : Step
 blind = fixing_by (λ t b. None)
 
--- by the first two steps alone
-abbrev in_two_steps : Candidate → Candidate → Bool
-in_two_steps = by greater (λ c. c.volume) (by ltb (λ c. c.surplus) level)
+-- the price is the one above the band
+abbrev pub outside_band : Step
+outside_band = fixing_by (λ t b. Some (suc t.hi))
 
-abbrev best_in_two : ℕ → Book → ℕ → ℕ → Candidate
-best_in_two r b lo zero = candidate r b lo
-best_in_two r b lo (suc n) = better_of in_two_steps (best_in_two r b lo n) (candidate r b (lo + suc n))
+-- the best price of the band by another preference
+abbrev best_by : (Candidate → Candidate → Bool) → ℕ → Book → ℕ → ℕ → Candidate
+best_by preferred r b lo zero = candidate r b lo
+best_by preferred r b lo (suc n) = better_of preferred (best_by preferred r b lo n) (candidate r b (lo + suc n))
 
 abbrev price_of_best : Candidate → Option ℕ
 price_of_best c = option_map (λ x. x.price) (priced c)
 
+-- by the first two steps alone
+abbrev in_two_steps : Candidate → Candidate → Bool
+in_two_steps = by greater (λ c. c.volume) (by ltb (λ c. c.surplus) level)
+
 -- leaves out the third step
 abbrev pub two_steps : Step
-two_steps = fixing_by (λ t b. price_of_best (best_in_two t.reference b t.lo (t.hi - t.lo)))
+two_steps = fixing_by (λ t b. price_of_best (best_by in_two_steps t.reference b t.lo (t.hi - t.lo)))
 
--- tries only prices at which an order stands
+-- by the first step and the third
+abbrev by_nearest : Candidate → Candidate → Bool
+by_nearest = by greater (λ c. c.volume) (by ltb (λ c. c.distance) level)
+
+-- leaves out the second step
+abbrev pub surplus_ignored : Step
+surplus_ignored = fixing_by (λ t b. price_of_best (best_by by_nearest t.reference b t.lo (t.hi - t.lo)))
+
+-- tries only the lowest price of the band and prices at which an order stands
 abbrev pub standing_prices : Step
 standing_prices =
     fixing_by
@@ -130,6 +170,28 @@ lapsed_first t day =
 abbrev pub lapse_first : Step
 lapse_first = striking lapsed_first
 
+abbrev backwards : List Slip → List Slip → List Slip
+backwards [] ys = ys
+backwards (x ∷ xs) ys = backwards xs (x ∷ ys)
+
+-- of the market orders that are left, the last lapses first
+abbrev last_lapses : Terms → Day → Outcome
+last_lapses t day =
+    let b : Book = day.table.book in
+    let price : Option ℕ = fixing_price t b in
+    let m : Paired = match_at price b.buys b.sells in
+    let slips : List Slip = m.slips ++ backwards (lapses m.buys ++ lapses m.sells) [] in
+    done
+    (record {
+      stage = next day.stage;
+      tally = day.tally;
+      table = holding day.table (book_of (limits m.buys) (limits m.sells));
+    })
+    (Advanced (next day.stage) price (turnover slips) (length slips)) slips
+
+abbrev pub lapse_backwards : Step
+lapse_backwards = striking last_lapses
+
 -- the trades of slips at the price that their sells stand at
 abbrev sold_at : Book → List Slip → List Slip
 sold_at b [] = []
@@ -146,7 +208,7 @@ lower_price =
     let m : Paired = match_at price b.buys b.sells in
     struck day price (record { slips = sold_at b m.slips; buys = m.buys; sells = m.sells }))
 
--- Trading in Open -------------------------------------------------------------------------------------------------------
+-- Trading in Open -----------------------------------------------------------------------------------------------------
 
 -- the rules with another enter in Open
 abbrev pub dealing_by : (Terms → Day → Order → Outcome) → Step
@@ -175,12 +237,13 @@ never_lapse =
     (record { stage = day.stage; tally = e.number; table = placed e s.left (dealt e.direction s.rest day.table) })
     (Entered e.number (e.volume - s.left) s.left (length s.slips)) s.slips)
 
+-- the slips, with the prices and the volumes of the trades changed
 abbrev trades_by : (ℕ → ℕ) → (ℕ → ℕ) → List Slip → List Slip
 trades_by price volume [] = []
 trades_by price volume (Trade b s q v ∷ ss) = Trade b s (price q) (volume v) ∷ trades_by price volume ss
 trades_by price volume (Lapse n v ∷ ss) = Lapse n v ∷ trades_by price volume ss
 
--- the rules with other trade slips in Open
+-- the rules with other trade slips of an enter in Open
 abbrev slips_by : (Order → List Slip → List Slip) → Step
 slips_by f =
     dealing_by
@@ -193,19 +256,21 @@ slips_by f =
 abbrev pub own_price : Step
 own_price = slips_by (λ e ss. trades_by (λ q. e.price) (λ v. v) ss)
 
--- a trade is for one less than the smaller of the two
+-- a trade of an enter in Open is for one less than the smaller of the two
 abbrev pub short_trade : Step
 short_trade = slips_by (λ e ss. trades_by (λ q. q) (λ v. v - 1) ss)
 
--- in Open nothing trades
+-- an order that enters in Open does not trade
 abbrev pub never_trades : Step
 never_trades = dealing_by (λ t day e. queue day.stage e.number e day.table (Entered e.number))
 
-abbrev half_of_first : List Order → List Order
-half_of_first [] = []
-half_of_first (o ∷ os) = with_volume (o.volume / 2) o ∷ os
+-- half of the first order before the rest, where an order of this price and volume fills it on side d
+abbrev half_of_filled : Direction → ℕ → ℕ → List Order → List Order → List Order
+half_of_filled d p v [] rest = rest
+half_of_filled d p v (o ∷ os) rest =
+    cond (willing d o.price p && nat_le o.volume v) (with_volume (o.volume / 2) o ∷ rest) rest
 
--- the first order of the other side trades, and half of it stays
+-- where an enter in Open fills the first order of the other side, half of it stays
 abbrev pub half_stays : Step
 half_stays =
     dealing_by
@@ -213,7 +278,7 @@ half_stays =
     let against : List Order = listed (opposite e.direction) day.table in
     let s : Swept = sweep e.direction e.number e.price against e.volume in
     arrive day.stage e.number e day.table (Entered e.number)
-    (record { slips = s.slips; rest = half_of_first against; left = s.left }))
+    (record { slips = s.slips; rest = half_of_filled (opposite e.direction) e.price e.volume against s.rest; left = s.left }))
 
 abbrev of_nothing : Direction → ℕ → List Order → List Slip → List Slip
 of_nothing d n [] ss = ss
@@ -229,7 +294,31 @@ empty_trade =
     arrive day.stage e.number e day.table (Entered e.number)
     (record { slips = of_nothing e.direction e.number against s.slips; rest = s.rest; left = s.left }))
 
--- Rank ------------------------------------------------------------------------------------------------------------------
+-- the first two change places
+abbrev swapped : List Order → List Order
+swapped [] = []
+swapped (x ∷ []) = x ∷ []
+swapped (x ∷ (y ∷ xs)) = y ∷ (x ∷ xs)
+
+-- an entering order passes the first over
+abbrev pub passed_over : Step
+passed_over =
+    dealing_by
+    (λ t day e.
+    arrive day.stage e.number e day.table (Entered e.number)
+    (sweep e.direction e.number e.price (swapped (listed (opposite e.direction) day.table)) e.volume))
+
+-- Price and rank ------------------------------------------------------------------------------------------------------
+
+-- a market buy has the lowest price of the band, and a market sell the highest
+abbrev pub exchanged_ends : Step
+exchanged_ends t day (Enter member d (Some p) volume) room = step t day (Enter member d (Some p) volume) room
+exchanged_ends t day (Enter member d None volume) room =
+    let o : Order = entering t (suc day.tally) member d None volume in
+    enter day (rewritten (market_price t (opposite d)) o.volume o.arrival o)
+exchanged_ends t day (Alter member n price volume) room = step t day (Alter member n price volume) room
+exchanged_ends t day (Withdraw member n) room = step t day (Withdraw member n) room
+exchanged_ends t day Advance room = step t day Advance room
 
 -- before all at its price
 abbrev ahead : Direction → Order → List Order → List Order
@@ -249,18 +338,6 @@ last_first t day (Alter member n price volume) room = step t day (Alter member n
 last_first t day (Withdraw member n) room = step t day (Withdraw member n) room
 last_first t day Advance room = step t day Advance room
 
-abbrev priced_at : ℕ → Order → Order
-priced_at p o =
-    record {
-      number = o.number;
-      member = o.member;
-      direction = o.direction;
-      price = p;
-      market = o.market;
-      volume = o.volume;
-      arrival = o.arrival;
-    }
-
 -- an alter leaves price, place and arrival as they are, and sets the volume
 abbrev pub old_arrival : Step
 old_arrival t day (Enter member d limit volume) room = step t day (Enter member d limit volume) room
@@ -270,52 +347,7 @@ old_arrival t day (Alter member n price volume) room =
 old_arrival t day (Withdraw member n) room = step t day (Withdraw member n) room
 old_arrival t day Advance room = step t day Advance room
 
--- a market buy has the lowest price of the band, and a market sell the highest
-abbrev pub exchanged_ends : Step
-exchanged_ends t day (Enter member d (Some p) volume) room = step t day (Enter member d (Some p) volume) room
-exchanged_ends t day (Enter member d None volume) room =
-    let o : Order = entering t (suc day.tally) member d None volume in
-    enter day (priced_at (market_price t (opposite d)) o)
-exchanged_ends t day (Alter member n price volume) room = step t day (Alter member n price volume) room
-exchanged_ends t day (Withdraw member n) room = step t day (Withdraw member n) room
-exchanged_ends t day Advance room = step t day Advance room
-
--- the first two change places
-abbrev swapped : List Order → List Order
-swapped [] = []
-swapped (x ∷ []) = x ∷ []
-swapped (x ∷ (y ∷ xs)) = y ∷ (x ∷ xs)
-
--- an entering order passes the first over
-abbrev pub passed_over : Step
-passed_over =
-    dealing_by
-    (λ t day e.
-    arrive day.stage e.number e day.table (Entered e.number)
-    (sweep e.direction e.number e.price (swapped (listed (opposite e.direction) day.table)) e.volume))
-
-abbrev one_less : Answer → Answer
-one_less (Entered n traded held slips) = Entered n traded held slips
-one_less (Altered traded held slips) = Altered traded held slips
-one_less (Withdrawn v slips) = Withdrawn (v - 1) slips
-one_less (Advanced stage price traded slips) = Advanced stage price traded slips
-
--- withdraw answers less than it takes
-abbrev pub part_withdrawal : Step
-part_withdrawal t day c room = answering one_less (step t day c room)
-
-abbrev with_price : Answer → Answer
-with_price (Entered n traded held slips) = Entered n traded held slips
-with_price (Altered traded held slips) = Altered traded held slips
-with_price (Withdrawn v slips) = Withdrawn v slips
-with_price (Advanced stage None traded slips) = Advanced stage (Some 1) traded slips
-with_price (Advanced stage (Some p) traded slips) = Advanced stage (Some p) traded slips
-
--- there is always a price
-abbrev pub always_priced : Step
-always_priced t day c room = answering with_price (step t day c room)
-
--- Refusals --------------------------------------------------------------------------------------------------------------
+-- Refusals ------------------------------------------------------------------------------------------------------------
 
 abbrev emptied : Came → Verdict → Came
 emptied c (refused n) = record { result = refused n; book = empty }
@@ -325,31 +357,6 @@ emptied c (accepted a slips) = c
 abbrev pub forgetful : Engine
 forgetful t cap past x = let c : Came = model t cap past x in emptied c c.result
 
-abbrev pub FailsToo : Engine → Type 0
-FailsToo e = Law e → ⊥
-
 -- refuses every call: the law has no word on what is to be accepted
 abbrev pub refusing : Engine
 refusing t cap past x = record { result = refused 3; book = empty }
-
-abbrev backwards : List Slip → List Slip → List Slip
-backwards [] ys = ys
-backwards (x ∷ xs) ys = backwards xs (x ∷ ys)
-
--- of the market orders that are left, the last lapses first
-abbrev last_lapses : Terms → Day → Outcome
-last_lapses t day =
-    let b : Book = day.table.book in
-    let price : Option ℕ = fixing_price t b in
-    let m : Paired = match_at price b.buys b.sells in
-    let slips : List Slip = m.slips ++ backwards (lapses m.buys ++ lapses m.sells) [] in
-    done
-    (record {
-      stage = next day.stage;
-      tally = day.tally;
-      table = holding day.table (book_of (limits m.buys) (limits m.sells));
-    })
-    (Advanced (next day.stage) price (turnover slips) (length slips)) slips
-
-abbrev pub lapse_backwards : Step
-lapse_backwards = striking last_lapses

@@ -1,6 +1,6 @@
 // The law fails of rules with a flaw: what follows tests the law, not the code.
 ghost use Rattle.book.specs.Law.{Law};
-ghost use Rattle.book.specs.Flaws.{Fails, FailsToo, above_limit, always_priced, blind, empty_trade, exchanged_ends, forgetful, half_stays, lapse_backwards, lapse_first, last_first, lower_price, never_lapse, never_trades, no_count, no_volume, old_arrival, own_price, part_withdrawal, passed_over, refusing, short_trade, standing_prices, two_steps, wrong_number};
+ghost use Rattle.book.specs.Flaws.{Fails, Unlawful, above_limit, always_priced, blind, empty_trade, exchanged_ends, forgetful, half_stays, lapse_backwards, lapse_first, last_first, lower_price, never_lapse, never_trades, no_count, no_volume, old_arrival, outside_band, own_price, part_withdrawal, passed_over, refusing, short_trade, standing_prices, surplus_ignored, two_steps, wrong_number};
 
 // Enter answers a number that is not the order's.
 #[tactic(auto, using(crate::proofs::Flawed::wrong_number_fails))]
@@ -26,7 +26,19 @@ pub fn two_steps_fails()
     ensures { Fails two_steps }
 {}
 
-// The fixing tries only prices at which an order stands.
+// The fixing leaves out its second step.
+#[tactic(auto, using(crate::proofs::Flawed::surplus_ignored_fails))]
+pub fn surplus_ignored_fails()
+    ensures { Fails surplus_ignored }
+{}
+
+// The fixing's price is above the band.
+#[tactic(auto, using(crate::proofs::Flawed::outside_band_fails))]
+pub fn outside_band_fails()
+    ensures { Fails outside_band }
+{}
+
+// The fixing tries only the lowest price of the band and prices at which an order stands.
 #[tactic(auto, using(crate::proofs::Flawed::standing_prices_fails))]
 pub fn standing_prices_fails()
     ensures { Fails standing_prices }
@@ -44,7 +56,7 @@ pub fn above_limit_fails()
     ensures { Fails above_limit }
 {}
 
-// An order that is filled leaves only half of its volume.
+// Where an order that enters fills the first of the other side, half of it stays.
 #[tactic(auto, using(crate::proofs::Flawed::half_stays_fails))]
 pub fn half_stays_fails()
     ensures { Fails half_stays }
@@ -80,7 +92,7 @@ pub fn last_first_fails()
     ensures { Fails last_first }
 {}
 
-// An order that is raised keeps its arrival.
+// An alter keeps price and arrival.
 #[tactic(auto, using(crate::proofs::Flawed::old_arrival_fails))]
 pub fn old_arrival_fails()
     ensures { Fails old_arrival }
@@ -98,7 +110,7 @@ pub fn part_withdrawal_fails()
     ensures { Fails part_withdrawal }
 {}
 
-// Advance out of Open answers a price.
+// Advance answers a price also where there is none.
 #[tactic(auto, using(crate::proofs::Flawed::always_priced_fails))]
 pub fn always_priced_fails()
     ensures { Fails always_priced }
@@ -107,7 +119,7 @@ pub fn always_priced_fails()
 // A refused call empties the lists.
 #[tactic(auto, using(crate::proofs::Flawed::forgetful_fails))]
 pub fn forgetful_fails()
-    ensures { FailsToo forgetful }
+    ensures { Unlawful forgetful }
 {}
 
 // Of the market orders that are left, the last lapses first.
@@ -128,13 +140,13 @@ pub fn own_price_fails()
     ensures { Fails own_price }
 {}
 
-// A trade is for less than the smaller of the two.
+// A trade of an enter in Open is for less than the smaller of the two.
 #[tactic(auto, using(crate::proofs::Flawed::short_trade_fails))]
 pub fn short_trade_fails()
     ensures { Fails short_trade }
 {}
 
-// Nothing trades in Open.
+// An order that enters in Open does not trade.
 #[tactic(auto, using(crate::proofs::Flawed::never_trades_fails))]
 pub fn never_trades_fails()
     ensures { Fails never_trades }
