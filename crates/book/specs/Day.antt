@@ -21,20 +21,24 @@ use Rattle.rules.specs.Side.{opposite, willing}
 use Rattle.tables.specs.Listing.{with_volume}
 use Rattle.book.specs.Rules.{market_price, next}
 
+-- what a session holds between calls: the stage, the last arrival given and what its table means
 pub record Day : Type 0 where
   pub stage : Stage
   pub tally : ℕ
   pub table : Contents
 
+-- before the first call
 abbrev pub new : Capacity → Day
 new cap = record { stage = PreOpen; tally = 0; table = record { capacity = cap; book = empty } }
 
 -- Orders ------------------------------------------------------------------------------------------------------------
 
+-- the price that an order stands at: its limit, or a market order's
 abbrev pub limit_price : Terms → Direction → Option ℕ → ℕ
 limit_price t d (Some p) = p
 limit_price t d None = market_price t d
 
+-- without a limit it is a market order
 abbrev pub is_market : Option ℕ → Bool
 is_market None = true
 is_market (Some p) = false
@@ -60,6 +64,7 @@ moves price volume o = not (price == o.price) || nat_lt o.volume volume
 abbrev pub alter_tally : ℕ → ℕ → ℕ → Order → ℕ
 alter_tally tally price volume o = cond (moves price volume o) (suc tally) tally
 
+-- the order with the price and volume wanted, and the arrival that is due
 abbrev pub altered : ℕ → ℕ → ℕ → Order → Order
 altered tally price volume o =
     record {
@@ -85,11 +90,13 @@ abbrev pub trade : Direction → ℕ → ℕ → ℕ → ℕ → Slip
 trade Buy n m price v = Trade n m price v
 trade Sell n m price v = Trade m n price v
 
+-- what a sweep leaves: its slips, the rest of the other side, and the volume left of the order that came
 pub record Swept : Type 0 where
   pub slips : List Slip
   pub rest : List Order
   pub left : ℕ
 
+-- with one slip before the others
 abbrev pub swept : Slip → Swept → Swept
 swept slip s = record { slips = slip ∷ s.slips; rest = s.rest; left = s.left }
 
@@ -114,6 +121,7 @@ dealt d rest t = holding t (with_side (opposite d) rest t.book)
 abbrev pub placed : Order → ℕ → Contents → Contents
 placed e v t = cond (v == 0) t (added (with_volume v e) t)
 
+-- what the rules make of a call: the number of its refusal, or the day after it, its answer and its slips
 pub data Outcome : Type 0 where
   refused_by : ℕ → Outcome
   done : Day → Answer → List Slip → Outcome
@@ -143,19 +151,21 @@ queue stage tally e t reply =
 abbrev pub fixing_price : Terms → Book → Option ℕ
 fixing_price t b = option_map (λ c. c.price) (fixing_under t b)
 
+-- what is left when two sides have traded: their slips, and the rest of each side
 pub record Paired : Type 0 where
   pub slips : List Slip
   pub buys : List Order
   pub sells : List Order
 
+-- with one slip before the others
 abbrev pub paired : Slip → Paired → Paired
 paired slip s = record { slips = slip ∷ s.slips; buys = s.buys; sells = s.sells }
 
--- the first order after it has traded v
+-- the orders once the first has traded v
 abbrev pub less : ℕ → Order → List Order → List Order
 less v o os = cond (nat_le o.volume v) os (with_volume (o.volume - v) o ∷ os)
 
--- the first buy trades with the first sell at p, at most n times
+-- while both are willing at p the first buy trades with the first sell, at most n times
 abbrev pub pair : ℕ → ℕ → List Order → List Order → Paired
 pair p zero bs ss = record { slips = []; buys = bs; sells = ss }
 pair p (suc n) [] ss = record { slips = []; buys = []; sells = ss }
@@ -166,18 +176,22 @@ pair p (suc n) (b ∷ bs) (s ∷ ss) =
     (pair p n (less (min b.volume s.volume) b bs) (less (min b.volume s.volume) s ss)))
     (record { slips = []; buys = b ∷ bs; sells = s ∷ ss })
 
+-- each trade uses up an order, so as many times as there are orders is enough
 abbrev pub match_at : Option ℕ → List Order → List Order → Paired
 match_at None bs ss = record { slips = []; buys = bs; sells = ss }
 match_at (Some p) bs ss = pair p (length bs + length ss) bs ss
 
+-- the slips by which the market orders of a list lapse
 abbrev pub lapses : List Order → List Slip
 lapses [] = []
 lapses (o ∷ os) = cond o.market (Lapse o.number o.volume ∷ lapses os) (lapses os)
 
+-- the limit orders of a list
 abbrev pub limits : List Order → List Order
 limits [] = []
 limits (o ∷ os) = cond o.market (limits os) (o ∷ limits os)
 
+-- the end of a strike: what is left of market orders lapses, buys before sells, and the stage is the next
 abbrev pub struck : Day → Option ℕ → Paired → Outcome
 struck day price m =
     let slips : List Slip = m.slips ++ (lapses m.buys ++ lapses m.sells) in
@@ -189,6 +203,7 @@ struck day price m =
     })
     (Advanced (next day.stage) price (turnover slips) (length slips)) slips
 
+-- both sides trade at the fixing price
 abbrev pub strike : Terms → Day → Outcome
 strike t day =
     let price : Option ℕ = fixing_price t day.table.book in
@@ -196,9 +211,11 @@ strike t day =
 
 -- The calls ------------------------------------------------------------------------------------------------------------
 
+-- refused by this number where the test says so
 abbrev pub refuse : Bool → ℕ → Outcome → Outcome
 refuse b n out = cond b (refused_by n) out
 
+-- tests of the stage
 abbrev pub is_closed : Stage → Bool
 is_closed PreOpen = false
 is_closed Open = false
@@ -221,6 +238,7 @@ abbrev pub limit_row : Terms → Option ℕ → Option ℕ
 limit_row t None = None
 limit_row t (Some p) = price_row t.lo t.hi p
 
+-- in Open the order trades first, and what is left of a limit order stands; in another stage it only stands
 abbrev pub enter : Day → Order → Outcome
 enter day e =
     let reply : Reply = Entered e.number in
@@ -229,7 +247,7 @@ enter day e =
     (sweep e.direction e.number e.price (listed (opposite e.direction) day.table) e.volume))
     (queue day.stage e.number e day.table reply)
 
--- the order leaves the table, and comes back as an order that enters
+-- the order leaves the table and comes back altered; in Open, at another price, as one that enters
 abbrev pub alter : Day → ℕ → ℕ → Order → Outcome
 alter day price volume o =
     let d : Direction = o.direction in
@@ -240,14 +258,16 @@ alter day price volume o =
     (arrive day.stage tally e t Altered (sweep d o.number price (listed (opposite d) t) volume))
     (queue day.stage tally e t Altered)
 
+-- the order leaves the table, and its whole volume is answered
 abbrev pub withdraw : Day → Order → Outcome
 withdraw day o =
     done (record { stage = day.stage; tally = day.tally; table = removed o.number day.table }) (Withdrawn o.volume 0) []
 
--- the run has no place for each order that is held
+-- the run has fewer places than orders are held
 abbrev pub short_strike : Day → ℕ → Bool
 short_strike day room = nat_lt room (length day.table.book.buys + length day.table.book.sells)
 
+-- out of Pre-open and Pre-close there is a strike
 abbrev pub advance : Terms → Day → ℕ → Stage → Outcome
 advance t day room PreOpen = refuse (short_strike day room) 12 (strike t day)
 advance t day room Open =
@@ -255,6 +275,7 @@ advance t day room Open =
 advance t day room PreClose = refuse (short_strike day room) 12 (strike t day)
 advance t day room Closed = refused_by 3
 
+-- in Open, the run has fewer places than the other side has orders and one more
 abbrev pub short_run : Day → ℕ → Direction → Bool
 short_run day room d = is_open day.stage && nat_lt room (length (listed (opposite d) day.table) + 1)
 

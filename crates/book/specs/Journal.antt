@@ -5,6 +5,7 @@ use Rattle.tables.specs.Meaning.{Capacity}
 use Rattle.book.specs.Ledger.{Ledger, fresh}
 use Rattle.book.specs.Law.{Try, Came, Engine, book_keeping, Lawful, Law}
 
+-- a try, and what came of it
 pub record Line : Type 0 where
   pub asked : Try
   pub came : Came

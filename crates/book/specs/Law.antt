@@ -45,6 +45,7 @@ pub record Try : Type 0 where
   pub call : Call
   pub room : ℕ
 
+-- what a call is answered: the number of its refusal, or an answer with the slips that it wrote
 pub data Verdict : Type 0 where
   refused : ℕ → Verdict
   accepted : Answer → List Slip → Verdict
@@ -67,6 +68,7 @@ withdrawn (Entered n traded held slips) = 0
 withdrawn (Altered traded held slips) = 0
 withdrawn (Advanced stage price traded slips) = 0
 
+-- what an accepted call feeds the ledger
 abbrev pub fed : Call → Answer → Feed
 fed (Enter member d limit volume) a = entry member d limit volume
 fed (Alter member n price volume) a = alteration n price volume
@@ -91,8 +93,11 @@ price_of (Altered traded held slips) = None
 price_of (Withdrawn v slips) = None
 
 pub data Mode : Type 0 where
+  -- a strike, with the price that it answered
   fixing_at : Option ℕ → Mode
+  -- an enter or an alter in Open, where an order that comes trades at once
   continuous : Mode
+  -- anything else: nothing trades and nothing lapses
   quiet : Mode
 
 abbrev pub advancing : Stage → Option ℕ → Mode
@@ -116,7 +121,8 @@ mode stage Advance price = advancing stage price
 
 -- Priority -----------------------------------------------------------------------------------------------------------------
 
--- the order that the call brought in has the last arrival given
+-- the order with the last arrival given: in an enter, and in an alter that takes a new arrival, the call's own; any other
+-- alter leaves nothing to trade
 abbrev pub Entering : Ledger → Order → Type 0
 Entering L o = o.arrival ≡ L.tally
 
@@ -235,6 +241,7 @@ pub record Upheld (t : Terms) (L : Ledger) (c : Call) (a : Answer) (m : Mode) (M
   pub answer : a ≡ due c m L slips (post_all slips M)
   pub shown : Shown (post_all slips M) b
 
+-- what comes of a call, with L the ledger before it: a refused call leaves the lists as the ledger has them
 abbrev pub Lawful : Terms → Ledger → Call → Verdict → Book → Type 0
 Lawful t L c (refused n) b = Shown L b
 Lawful t L c (accepted a slips) b =

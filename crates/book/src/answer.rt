@@ -1,5 +1,4 @@
-// What an accepted call answers. A fixing trades what any number of orders hold, and writes as many slips as the run has
-// places for.
+// What an accepted call answers. A fixing trades what any number of orders hold, so its volume is wide.
 use crate::stage::Stage;
 
 #[derive(Clone, Copy, Debug, PartialEq, Eq)]
