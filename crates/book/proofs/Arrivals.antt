@@ -65,7 +65,7 @@ arrivals_kept L f h a =
     }
 
 -- one account, by whether it is the one that is put
-put_cases :
+pub put_cases :
     (n : ℕ) (a : Option Order) (f : Accounts) (m : ℕ) (o : Order) → put n a f m ≡ Some o →
     ((m ≡ n) × (a ≡ Some o)) ⊎ ((m ≡ n → ⊥) × (f m ≡ Some o))
 put_cases n a f m o e =

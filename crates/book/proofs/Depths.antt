@@ -81,7 +81,7 @@ upto_exact n d p (x ∷ xs) o s u (inr m) e =
           (λ k. before_irrefl d x (subst (Before d x) (u o x (inr m) (inl refl) (e ∙ sym k)) (ahead_of d x xs s o m))),
     )
 
-same_itself : (d : Direction) → same d d ≡ true
+pub same_itself : (d : Direction) → same d d ≡ true
 same_itself Buy = refl
 same_itself Sell = refl
 

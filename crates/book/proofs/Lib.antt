@@ -21,3 +21,4 @@ mod Journals
 pub mod Leading
 mod Refusing
 pub mod Endings
+pub mod Living

@@ -23,10 +23,10 @@ module _ {X : Type 0} (P : X → Type 0) where
   one_of (y ∷ ys) a x (inl e) = subst P (sym e) a.0
   one_of (y ∷ ys) a x (inr m) = one_of ys a.1 x m
 
-member_of : {X : Type 0} (xs : List X) (x : X) → Contains xs x → Member x xs
+pub member_of : {X : Type 0} (xs : List X) (x : X) → Contains xs x → Member x xs
 member_of xs x c = All-contains (λ y. Member y xs) xs x (All-from_recursion (λ y. Member y xs) xs (each (λ y. Member y xs) xs (λ y m. m))) c
 
-contains_of : {X : Type 0} (xs : List X) (x : X) → Member x xs → Contains xs x
+pub contains_of : {X : Type 0} (xs : List X) (x : X) → Member x xs → Contains xs x
 contains_of xs x m = one_of (Contains xs) xs (recursion_from_All (Contains xs) xs (All-contains_itself xs)) x m
 
 -- what a side lists, member by member

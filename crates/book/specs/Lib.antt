@@ -6,6 +6,7 @@ pub mod Law
 pub mod Model
 pub mod Refusals
 pub mod Room
+pub mod LiveOrders
 pub mod Places
 pub mod Splits
 pub mod Marks

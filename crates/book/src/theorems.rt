@@ -3,6 +3,7 @@ ghost use Rattle.book.specs.Ending.{EndsByJournal};
 ghost use Rattle.book.specs.Journal.{LawOfJournals};
 ghost use Rattle.book.specs.Law.{Law};
 ghost use Rattle.book.specs.Leads.{GoingOn};
+ghost use Rattle.book.specs.LiveOrders.{LiveBookIsLive};
 ghost use Rattle.book.specs.Model.{model};
 ghost use Rattle.book.specs.Pinned.{Pinned};
 ghost use Rattle.book.specs.Places.{TakesByPlaces};
@@ -67,4 +68,9 @@ pub fn worked_day_holds()
 #[tactic(auto, using(crate::proofs::Example::refusals))]
 pub fn refusals_by_example()
     ensures { RefusalsByExample }
+{}
+
+// After every history of every engine, the book by which a fixing is judged holds exactly the live orders.
+pub fn live_book_is_live()
+    ensures { LiveBookIsLive }
 {}
