@@ -1,5 +1,6 @@
 -- The next number is never held.
-use Rattle.std.proofs.Common.{subst, ◌≤◌, ◌≡◌, suc, Bool, true, false, not, ◌&&◌, length, refl, ap, ◌∙◌, arith, nat_lt}
+use Rattle.std.proofs.Common.{subst, ℕ, ◌≤◌, ◌≡◌, suc, sym, inl, inr, nat_le, Bool, true, false, not, ◌&&◌, length, refl, ap, ◌∙◌, arith, nat_lt}
+use Rattle.std.proofs.lemmas.Bool.{cases_lt, lt-ltb, le-ltb, lt-leb, le-leb}
 use Rattle.rules.specs.Book.{side}
 use Rattle.rules.specs.declared.order.Direction.{Direction}
 use Rattle.rules.specs.declared.order.Direction.TheVariants.{Buy, Sell}
@@ -23,6 +24,14 @@ and_true : (b : Bool) → (b && true) ≡ b
 and_true true = refl
 and_true false = refl
 
+-- fewer than so many is not so many or more
+fewer : (m n : ℕ) → nat_lt m n ≡ not (nat_le n m)
+fewer m n =
+    elim (cases_lt m n) [
+      | inl a ↦ lt-ltb m n a ∙ sym (ap not (lt-leb n m a))
+      | inr a ↦ le-ltb m n a ∙ sym (ap not (le-leb n m a))
+    ]
+
 module _ (t : Terms) (L : Ledger) (day : Day) (g : Agrees t L day) where
   none_on : (d : Direction) → times (suc day.tally) (side d day.table.book) ≡ 0
   none_on d =
@@ -39,10 +48,11 @@ takes_by_places t cap past =
     let home : day.table.capacity ≡ cap = home_after t cap past in
     let g : Agrees t (ledger model t cap past) day = history_agrees t cap past in
     record {
+      capacity = home;
       fits = λ d. subst (λ (c : Capacity). length (listed d day.table) ≤ c.places) home (g.inv.fits d);
       taken =
           λ member d limit volume.
           let room : Bool = nat_lt (length (listed d day.table)) day.table.capacity.places in
           ap (λ h. room && not h) (not_held t (ledger model t cap past) day g) ∙ and_true room ∙
-          ap (λ (c : Capacity). nat_lt (length (listed d day.table)) c.places) home;
+          fewer (length (listed d day.table)) day.table.capacity.places;
     }

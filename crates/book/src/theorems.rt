@@ -46,8 +46,8 @@ pub fn room_stands()
     ensures { Room }
 {}
 
-// After every history no side holds more than its places, and the next order is refused for want of one only where its
-// side is full.
+// After every history the table has the places given, no side holds more, and the table takes the next order exactly where
+// its side is not full.
 pub fn only_full_sides_refuse()
     ensures { TakesByPlaces }
 {}
