@@ -1,6 +1,6 @@
 mod Members
 mod Ranks
-mod Sided
+pub mod Sided
 mod Accounts
 mod Trades
 mod Kept
