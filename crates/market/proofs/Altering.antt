@@ -1,0 +1,139 @@
+-- An order leaves its place and stands again.
+use Rattle.std.proofs.Common.{◌≡◌, ℕ, zero, suc, ◌+◌, ◌≤◌, Bool, true, false, not, cond, ◌&&◌, nat_lt, List, [], ◌∷◌, length, set, Some, None, Option, refl, sym, ap, subst, ◌∙◌, arith}
+use Rattle.std.proofs.lemmas.Bool.{and_from, and_parts, not_from_false, lt-ltb, cond-true, cond-false, eqb-true}
+use Rattle.std.specs.List as lists
+use Rattle.std.specs.List.{slice_get, list_all, find}
+use Rattle.std.specs.Option.{option_or}
+use Rattle.rules.specs.Rank.{before}
+use Rattle.rules.specs.Side.{opposite}
+use Rattle.rules.specs.declared.order.Direction.{Direction}
+use Rattle.rules.specs.declared.order.Direction.TheVariants.{Buy, Sell}
+use Rattle.rules.specs.declared.order.Order.{Order}
+use Rattle.tables.specs.Listing.{numbered, times, insert, with_volume, without, in_rank}
+use Rattle.tables.specs.Meaning.{Contents, Sound, listed, lookup, book_of, held, takes, put_in, removed, volume_set}
+use Rattle.tables.proofs.Keeps.{held_none}
+use Rattle.tables.proofs.Numbers.{without_at, set_volume_at, times_at}
+use Rattle.tables.proofs.Ranking.{ranking, Ranking}
+use Rattle.market.specs.Fills.{on_side}
+use Rattle.market.specs.Altered.{left_by}
+use Rattle.market.proofs.Taking.{get_is, listed_side, is_held, removed_listed, set_listed, stands, few}
+use Rattle.market.proofs.Lapsing.{remove_length}
+
+-- where the order stands that is found
+pub record Spot (n : ℕ) (xs : List Order) (o : Order) : Type 0 where
+  pub rank : ℕ
+  pub there : slice_get xs rank ≡ Some o
+  pub number : o.number ≡ n
+
+later : (n : ℕ) (x o : Order) (xs : List Order) → Spot n xs o → Spot n (x ∷ xs) o
+later n x o xs s = record { rank = suc s.rank; there = s.there; number = s.number }
+
+pub spot : (n : ℕ) (xs : List Order) (o : Order) → find (numbered n) xs ≡ Some o → Spot n xs o
+spot n [] o h = let z : ◌≡◌ {A = ℕ} 0 1 = cc in absurd (omega arith)
+spot n (x ∷ xs) o h = go (λ k. spot n xs o k) (numbered n x) refl h
+  where
+    go : (find (numbered n) xs ≡ Some o → Spot n xs o) → (b : Bool) → numbered n x ≡ b → cond b (Some x) (find (numbered n) xs) ≡ Some o → Spot n (x ∷ xs) o
+    go ih true e k = record { rank = 0; there = k; number = let y : x ≡ o = cc in sym (ap (λ z. z.number) y) ∙ eqb-true x.number n e }
+    go ih false e k = later n x o xs (ih k)
+
+-- on the side that it is on
+pub record Held (n : ℕ) (c : Contents) (o : Order) : Type 0 where
+  pub rank : ℕ
+  pub there : slice_get (listed o.direction c) rank ≡ Some o
+  pub number : o.number ≡ n
+
+on_its_side : (n : ℕ) (c : Contents) → Sound c → (d : Direction) (o : Order) → Spot n (listed d c) o → Held n c o
+on_its_side n c s d o p =
+    let e = listed_side c s d p.rank o p.there in
+    record { rank = p.rank; there = subst (λ x. slice_get (listed x c) p.rank ≡ Some o) (sym e) p.there; number = p.number }
+
+pub looked_up : (n : ℕ) (c : Contents) → Sound c → (o : Order) → lookup n c.book ≡ Some o → Held n c o
+looked_up n c s o h = go (find (numbered n) c.book.buys) refl h
+  where
+    go : (x : Option Order) → find (numbered n) c.book.buys ≡ x → option_or x (find (numbered n) c.book.sells) ≡ Some o → Held n c o
+    go (Some b) e k = on_its_side n c s Buy o (spot n c.book.buys o (e ∙ k))
+    go None e k = on_its_side n c s Sell o (spot n c.book.sells o k)
+
+-- no order has a number that was taken out
+without_none : (n : ℕ) (xs : List Order) → times n (without n xs) ≡ 0
+without_none n [] = refl
+without_none n (x ∷ xs) = go (numbered n x) refl (without_none n xs)
+  where
+    go : (b : Bool) → numbered n x ≡ b → times n (without n xs) ≡ 0 → times n (cond (not b) (x ∷ without n xs) (without n xs)) ≡ 0
+    go true e h = h
+    go false e h = ap (λ b. cond b 1 0 + times n (without n xs)) e ∙ omega arith
+
+-- the order o of the table c, and e of its number and side
+module _ (c : Contents) (s : Sound c) (o : Order) (e : Order) (number : o.number ≡ e.number) (side_is : o.direction ≡ e.direction) (i : ℕ) (there : slice_get (listed o.direction c) i ≡ Some o) where
+  at_side : slice_get (listed e.direction c) i ≡ Some o
+  at_side = subst (λ d. slice_get (listed d c) i ≡ Some o) side_is there
+
+  pub is_there : held e.number c.book ≡ true
+  is_there = subst (λ n. held n c.book ≡ true) number (is_held c s e.direction i o at_side)
+
+  pub gone : removed e.number c ≡ left_by e c
+  gone = subst (λ n. removed n c ≡ on_side e.direction (without n (listed e.direction c)) c) number (removed_listed c s e.direction i o at_side)
+
+  shorter : length (without e.number (listed e.direction c)) + 1 ≡ length (listed e.direction c)
+  shorter =
+      let w = without_at o.number (listed e.direction c) i (stands c s e.direction i o at_side) (few c s e.direction i o at_side) in
+      omega (arith, ap length (w ∙ ap (λ n. without n (listed e.direction c)) number), remove_length i (listed e.direction c) o at_side)
+
+  pub takes_again : takes (left_by e c) e ≡ true
+  takes_again = go e.direction shorter (s.fits e.direction) (one e.direction at_side)
+    where
+      alone : (d : Direction) → slice_get (listed d c) i ≡ Some o → times o.number (listed (opposite d) c) ≡ 0
+      alone Buy h = omega (arith, s.once o.number, times_at o.number c.book.buys i (stands c s Buy i o h))
+      alone Sell h = omega (arith, s.once o.number, times_at o.number c.book.sells i (stands c s Sell i o h))
+
+      one : (d : Direction) → slice_get (listed d c) i ≡ Some o → times e.number (listed (opposite d) c) ≡ 0
+      one d h = subst (λ n. times n (listed (opposite d) c) ≡ 0) number (alone d h)
+
+      go : (d : Direction) → length (without e.number (listed d c)) + 1 ≡ length (listed d c) → length (listed d c) ≤ c.capacity.places → times e.number (listed (opposite d) c) ≡ 0 →
+          (nat_lt (length (listed d (on_side d (without e.number (listed d c)) c))) c.capacity.places && not (held e.number (on_side d (without e.number (listed d c)) c).book)) ≡ true
+      go Buy a b z =
+          let xs = without e.number c.book.buys in
+          and_from _ _ (lt-ltb (length xs) c.capacity.places (omega arith)) (not_from_false _ (held_none (book_of xs c.book.sells) e.number (omega (arith, without_none e.number c.book.buys))))
+      go Sell a b z =
+          let xs = without e.number c.book.sells in
+          and_from _ _ (lt-ltb (length xs) c.capacity.places (omega arith)) (not_from_false _ (held_none (book_of c.book.buys xs) e.number (omega (arith, without_none e.number c.book.sells))))
+
+-- an order with another volume keeps its place
+module _ (d : Direction) (v : ℕ) where
+  -- on one side, orders that rank by their volume's leave
+  r : Ranking (before d)
+  r = ranking d
+
+  all_first : (o : Order) (xs : List Order) → list_all (before d o) xs ≡ true → insert (before d) (with_volume v o) xs ≡ with_volume v o ∷ xs
+  all_first o [] h = refl
+  all_first o (x ∷ xs) h = cond-true _ _ _ (and_parts (before d o x) (list_all (before d o) xs) h).0
+
+  behind : (x o : Order) (xs : List Order) (i : ℕ) → list_all (before d x) xs ≡ true → slice_get xs i ≡ Some o → before d x o ≡ true
+  behind x o [] i a h = let z : ◌≡◌ {A = ℕ} 0 1 = cc in absurd (omega arith)
+  behind x o (y ∷ ys) zero a h = let e : y ≡ o = cc in subst (λ z. before d x z ≡ true) e (and_parts (before d x y) _ a).0
+  behind x o (y ∷ ys) (suc i) a h = behind x o ys i (and_parts (before d x y) _ a).1 h
+
+  put_back : (o : Order) (xs : List Order) (i : ℕ) → in_rank (before d) xs ≡ true → slice_get xs i ≡ Some o → insert (before d) (with_volume v o) (lists.remove xs i) ≡ set xs i (with_volume v o)
+  put_back o [] i a h = let z : ◌≡◌ {A = ℕ} 0 1 = cc in absurd (omega arith)
+  put_back o (x ∷ xs) zero a h =
+      let e : x ≡ o = cc in
+      all_first o xs (subst (λ z. list_all (before d z) xs ≡ true) e (and_parts (list_all (before d x) xs) _ a).0)
+  put_back o (x ∷ xs) (suc i) a h =
+      let p = and_parts (list_all (before d x) xs) _ a in
+      let no : before d o x ≡ false = r.one_way x o (behind x o xs i p.0 h) in
+      cond-false _ _ _ no ∙ ap (λ ys. x ∷ ys) (put_back o xs i p.1 h)
+
+pub kept_in_place : (c : Contents) → Sound c → (o : Order) (v : ℕ) (i : ℕ) → slice_get (listed o.direction c) i ≡ Some o → (v ≡ 0 → ⊥) → volume_set o.number v c ≡ put_in (with_volume v o) (left_by o c)
+kept_in_place c s o v i h p =
+    let d = o.direction in
+    let xs = listed d c in
+    let back = put_back d v o xs i (s.sorted d) h in
+    let w = without_at o.number xs i (stands c s d i o h) (few c s d i o h) in
+    let sv = set_volume_at o.number v xs i o (stands c s d i o h) (few c s d i o h) in
+    set_listed c s d i o h v p
+    ∙ ap (λ ys. on_side d ys c) (sym (ap (λ z. set xs i (with_volume v z)) (sym (get_is xs i o o h)) ∙ sv) ∙ sym back ∙ ap (insert (before d) (with_volume v o)) w)
+    ∙ put_is d
+  where
+    put_is : (d : Direction) → on_side d (insert (before d) (with_volume v o) (without o.number (listed d c))) c ≡ on_side d (insert (before d) (with_volume v o) (listed d (on_side d (without o.number (listed d c)) c))) (on_side d (without o.number (listed d c)) c)
+    put_is Buy = refl
+    put_is Sell = refl

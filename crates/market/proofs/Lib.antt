@@ -1,0 +1,17 @@
+pub mod Taking
+pub mod Sweeping
+pub mod Pairing
+pub mod Lapsing
+pub mod Runs
+pub mod Arriving
+pub mod Gates
+pub mod Keeping
+pub mod Entering
+pub mod Following
+pub mod Advancing
+pub mod Altering
+pub mod Changing
+pub mod AltersAs
+pub mod Holding
+pub mod Working
+pub mod Journals

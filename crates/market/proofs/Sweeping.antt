@@ -1,0 +1,127 @@
+-- One turn of the sweep.
+use Rattle.std.proofs.Common.{◌≡◌, ℕ, ◌+◌, ◌-◌, min, ◌<◌, ◌≤◌, Bool, true, false, not, ◌||◌, List, [], ◌∷◌, length, set, Some, None, leb, ◌==◌, refl, sym, ap, ◌∙◌, arith, add-zero, ⊎_elim}
+use Rattle.std.proofs.lemmas.Bool.{le-leb, lt-leb, cond-true, cond-false, cond_both, cases_lt}
+use Rattle.std.specs.List.{slice_get}
+use Rattle.rules.specs.Side.{opposite, willing}
+use Rattle.rules.specs.declared.order.Direction.{Direction}
+use Rattle.rules.specs.declared.order.Direction.TheVariants.{Buy, Sell}
+use Rattle.rules.specs.declared.order.Order.{Order}
+use Rattle.tables.specs.Listing.{with_volume}
+use Rattle.tables.specs.Meaning.{Contents, listed}
+use Rattle.book.specs.declared.slip.Slip.{Slip}
+use Rattle.book.specs.Day.{Swept, sweep, swept as slipped, trade}
+use Rattle.market.specs.Fills.{put, took, on_side, took_on, ended, over, swept}
+use Rattle.market.proofs.Taking.{first_list}
+
+pub with_same : (d : Direction) (c : Contents) → on_side d (listed d c) c ≡ c
+with_same Buy c = refl
+with_same Sell c = refl
+
+pub listed_on : (d : Direction) (xs : List Order) (c : Contents) → listed d (on_side d xs c) ≡ xs
+listed_on Buy xs c = refl
+listed_on Sell xs c = refl
+
+pub on_twice : (d : Direction) (xs ys : List Order) (c : Contents) → on_side d xs (on_side d ys c) ≡ on_side d xs c
+on_twice Buy xs ys c = refl
+on_twice Sell xs ys c = refl
+
+-- nothing more happens
+abbrev still : List Order → ℕ → Swept
+still xs v = record { slips = []; rest = xs; left = v }
+
+-- the order n of side d and price p
+module _ (d : Direction) (n p : ℕ) where
+  abbrev a : Direction
+  a = opposite d
+
+  abbrev Stop : Order → ℕ → Bool
+  Stop o v = v == 0 || not (willing a o.price p)
+
+  over_still : (k : ℕ) (c : Contents) (run : List Slip) (v : ℕ) → over a k c run (still (listed a c) v) ≡ ended v k c run
+  over_still k c run v = let m : k + 0 ≡ k = add-zero k in let e = with_same a c in λ i. ended v (m i) (e i) run
+
+  -- one slip more
+  over_slip : (ys : List Order) (k : ℕ) (c : Contents) (run : List Slip) (s : Slip) (w : Swept) →
+      over a k c run (slipped s w) ≡ over a (k + 1) (on_side a ys c) (set run k s) w
+  over_slip ys k c run s w =
+      let e = sym (on_twice a w.rest ys c) in
+      let m : k + length (s ∷ w.slips) ≡ (k + 1) + length w.slips = omega arith in
+      λ i. ended w.left (m i) (e i) (put (k + 1) w.slips (set run k s))
+
+  stop : (o : Order) (os : List Order) (v : ℕ) → Stop o v ≡ true → sweep d n p (o ∷ os) v ≡ still (o ∷ os) v
+  stop o os v h = cond-true _ _ _ h
+
+  all : (o : Order) (os : List Order) (v : ℕ) → Stop o v ≡ false → o.volume ≤ v →
+      sweep d n p (o ∷ os) v ≡ slipped (trade d n o.number o.price o.volume) (sweep d n p os (v - o.volume))
+  all o os v h k = cond-false _ _ _ h ∙ cond-true _ _ _ (le-leb o.volume v k)
+
+  part : (o : Order) (os : List Order) (v : ℕ) → Stop o v ≡ false → v < o.volume →
+      sweep d n p (o ∷ os) v ≡ slipped (trade d n o.number o.price v) (still (with_volume (o.volume - v) o ∷ os) 0)
+  part o os v h k = cond-false _ _ _ h ∙ cond-false _ _ _ (lt-leb o.volume v k)
+
+  turn : (o : Order) (os : List Order) (v m : ℕ) → Stop o v ≡ false → m ≡ min v o.volume →
+      sweep d n p (o ∷ os) v ≡ slipped (trade d n o.number o.price m) (sweep d n p (took m (o ∷ os)) (v - m))
+  turn o os v m h e = ⊎_elim some whole (cases_lt v o.volume)
+    where
+      Turn : Type 0
+      Turn = sweep d n p (o ∷ os) v ≡ slipped (trade d n o.number o.price m) (sweep d n p (took m (o ∷ os)) (v - m))
+
+      whole : o.volume ≤ v → Turn
+      whole k =
+          let x = all o os v h k in
+          let is : m ≡ o.volume = omega arith in
+          let y : took m (o ∷ os) ≡ os = cond-true _ _ _ (le-leb o.volume m (omega arith)) in
+          cc
+
+      some : v < o.volume → Turn
+      some k =
+          let x = part o os v h k in
+          let is : m ≡ v = omega arith in
+          let z : v - m ≡ 0 = omega arith in
+          let y : took m (o ∷ os) ≡ with_volume (o.volume - m) o ∷ os = cond-false _ _ _ (lt-leb o.volume m (omega arith)) in
+          let u = stop (with_volume (o.volume - m) o) os 0 refl in
+          cc
+
+  none : (xs : List Order) (v : ℕ) → slice_get xs 0 ≡ None → sweep d n p xs v ≡ still xs v
+  none [] v h = refl
+  none (x ∷ xs) v h = let z : ◌≡◌ {A = ℕ} 0 1 = cc in absurd (omega arith)
+
+  pub swept_none : (v k : ℕ) (c : Contents) (run : List Slip) → slice_get (listed a c) 0 ≡ None → swept d n p v k c run ≡ ended v k c run
+  swept_none v k c run h = ap (over a k c run) (none (listed a c) v h) ∙ over_still k c run v
+
+  pub swept_stop : (o : Order) (v k : ℕ) (c : Contents) (run : List Slip) → slice_get (listed a c) 0 ≡ Some o → Stop o v ≡ true → swept d n p v k c run ≡ ended v k c run
+  swept_stop o v k c run h t =
+      let f = first_list (listed a c) o h in
+      ap (over a k c run) (ap (λ ys. sweep d n p ys v) f.1 ∙ stop o f.0 v t ∙ ap (λ ys. still ys v) (sym f.1)) ∙ over_still k c run v
+
+  pub swept_turn : (o : Order) (v k m : ℕ) (c : Contents) (run : List Slip) → slice_get (listed a c) 0 ≡ Some o → Stop o v ≡ false → m ≡ min v o.volume →
+      swept d n p v k c run ≡ swept d n p (v - m) (k + 1) (took_on a m c) (set run k (trade d n o.number o.price m))
+  swept_turn o v k m c run h goes e =
+      let f = first_list (listed a c) o h in
+      let s = trade d n o.number o.price m in
+      let ys = took m (listed a c) in
+      let x : sweep d n p (listed a c) v ≡ slipped s (sweep d n p (listed a (on_side a ys c)) (v - m)) =
+      ap (λ xs. sweep d n p xs v) f.1 ∙ turn o f.0 v m goes e
+      ∙ ap (λ xs. slipped s (sweep d n p xs (v - m))) (ap (took m) (sym f.1) ∙ sym (listed_on a ys c)) in
+      ap (over a k c run) x ∙ over_slip ys k c run s (sweep d n p (listed a (on_side a ys c)) (v - m))
+
+pub first_length : (xs : List Order) (o : Order) → slice_get xs 0 ≡ Some o → 0 < length xs
+first_length xs o h = let f = first_list xs o h in omega (arith, ap length f.1)
+
+-- what is left to come is one less, if the entering order goes on
+pub took_length : (xs : List Order) (o : Order) (v m : ℕ) → slice_get xs 0 ≡ Some o → m ≡ min v o.volume → 0 < v - m → length (took m xs) + 1 ≡ length xs
+took_length xs o v m h e p =
+    let f = first_list xs o h in
+    let b : took m (o ∷ f.0) ≡ f.0 = cond-true _ _ _ (le-leb o.volume m (omega arith)) in
+    omega (arith, ap (λ ys. length (took m ys)) f.1, ap length b, ap length f.1)
+
+pub took_most : (m : ℕ) (xs : List Order) → length (took m xs) ≤ length xs
+took_most m [] = omega arith
+took_most m (o ∷ os) = cond_both (leb o.volume m) os (with_volume (o.volume - m) o ∷ os) (λ ys. length ys ≤ length (o ∷ os)) (λ _. omega arith) (λ _. omega arith)
+
+pub took_smaller : (xs : List Order) (o : Order) (v m : ℕ) → slice_get xs 0 ≡ Some o → m ≡ min v o.volume → (v ≡ 0 → ⊥) → length (took m xs) + min 1 (v - m) < length xs + min 1 v
+took_smaller xs o v m h e p =
+    ⊎_elim
+    (λ k. omega (arith, took_length xs o v m h e k))
+    (λ k. omega (arith, took_most m xs))
+    (cases_lt 0 (v - m))

@@ -1,0 +1,115 @@
+-- A call that is worked does what the rules say, and is lawful.
+use Rattle.std.proofs.Common.{◌≡◌, ℕ, ◌≤◌, Bool, true, false, List, take, drop, length, Ok, Err, Result, refl, sym, ap, subst, ◌∙◌, arith}
+use Rattle.std.proofs.Math.Seq.{take-append_seam}
+use Rattle.std.proofs.lemmas.Bool.{both_ways}
+use Rattle.std.proofs.lemmas.List.{length-append, length-drop}
+use Rattle.rules.specs.declared.reference.DayRecord.{DayRecord}
+use Rattle.rules.specs.declared.terms.Terms.{Terms}
+use Rattle.tables.specs.Meaning.{Contents, Sound}
+use Rattle.book.specs.declared.answer.Answer.{Answer}
+use Rattle.book.specs.declared.call.Call.{Call}
+use Rattle.book.specs.declared.slip.Slip.{Slip}
+use Rattle.book.specs.declared.stage.Stage.{Stage}
+use Rattle.book.specs.Day.{Outcome, refused_by, done, step}
+use Rattle.book.specs.Law.{accepted}
+use Rattle.book.specs.Leads.{GoesOn}
+use Rattle.book.specs.Marks.{Session, worked, marked}
+use Rattle.book.specs.Model.{moved, result}
+use Rattle.book.specs.Room.{FitsRun}
+use Rattle.book.proofs.Leading.{going_on}
+use Rattle.book.proofs.Rooms.{room_stands}
+use Rattle.market.specs.Follow.{stage_after, followed}
+use Rattle.market.specs.Outcome.{Kept, day_at, written_into, Acted, acted, acted_as, acts}
+use Rattle.market.specs.Works.{Seen, seen, trial, Worked, came_to, answered, run_after, worked_by, works, count_of, verdict, line_of, Lawfully}
+use Rattle.market.proofs.Holding.{Fine, step_fine}
+
+abbrev is_ok : Result Answer ℕ → Bool
+is_ok (Ok a) = true
+is_ok (Err n) = false
+
+-- the slips that an answer counts are those that were written
+taken : (run : List Slip) (a : Answer) (slips : List Slip) → count_of a ≡ length slips → take (count_of a) (written_into run slips) ≡ slips
+taken run a slips e = ap (λ n. take n (written_into run slips)) e ∙ take-append_seam slips (drop (length slips) run)
+
+verdict_is : (at : Stage) (run : List Slip) (out : Outcome) → Fine at out → verdict (answered out) (run_after run out) ≡ result out
+verdict_is at run (refused_by n) f = refl
+verdict_is at run (done day a slips) f = ap (accepted a) (taken run a slips f.counted)
+
+abbrev session_of : Stage → ℕ → DayRecord → Contents → Session
+session_of stage tally m c = record { day = record { stage = stage; tally = tally; table = c }; marks = m }
+
+module _ (t : Terms) (stage : Stage) (tally : ℕ) (m : DayRecord) (c : Contents) (h : Kept tally c) (s : Sound c) (call : Call) (run : List Slip) where
+  abbrev out : Outcome
+  out = step t (day_at stage tally c) call (length run)
+
+  abbrev before : Seen
+  before = record { terms = t; session = session_of stage tally m c }
+
+  abbrev at : Stage → ℕ → Contents → Seen
+  at stage' tally' c' = record { terms = t; session = session_of stage' tally' m c' }
+
+  fine : Fine (stage_after stage call) out
+  fine = step_fine stage tally c h s t call (length run)
+
+  -- a refusal leaves the session as it was
+  pub refused_is : (n tally' : ℕ) (c' : Contents) (run' : List Slip) → acted (Err n) tally' c' run' ≡ acts t stage tally c call run →
+      came_to (Err n) (at stage tally' c') run' ≡ works before call run
+  refused_is n tally' c' run' e = go out e
+    where
+      go : (o : Outcome) → acted (Err n) tally' c' run' ≡ acted_as tally c run o → came_to (Err n) (at stage tally' c') run' ≡ worked_by before call run o
+      go (refused_by k) q = ap (λ (x : Acted). came_to x.answer (at stage x.tally x.after) x.run) q
+      go (done day b slips) q = absurd (both_ways true (sym (ap (λ (x : Acted). is_ok x.answer) q)) refl)
+
+  pub refused_kept : (n tally' : ℕ) (c' : Contents) (run' : List Slip) → acted (Err n) tally' c' run' ≡ acts t stage tally c call run → Kept tally' c'
+  refused_kept n tally' c' run' e = go out e
+    where
+      go : (o : Outcome) → acted (Err n) tally' c' run' ≡ acted_as tally c run o → Kept tally' c'
+      go (refused_by k) q = subst (λ (x : Acted). Kept x.tally x.after) (sym q) h
+      go (done day b slips) q = absurd (both_ways true (sym (ap (λ (x : Acted). is_ok x.answer) q)) refl)
+
+  module _ (a : Answer) (tally' : ℕ) (c' : Contents) (run' : List Slip) (e : acted (Ok a) tally' c' run' ≡ acts t stage tally c call run) where
+    pub done_kept : Kept tally' c'
+    done_kept = go out e fine
+      where
+        go : (o : Outcome) → acted (Ok a) tally' c' run' ≡ acted_as tally c run o → Fine (stage_after stage call) o → Kept tally' c'
+        go (refused_by k) q f = absurd (both_ways true (ap (λ (x : Acted). is_ok x.answer) q) refl)
+        go (done day b slips) q f = subst (λ (x : Acted). Kept x.tally x.after) (sym q) f.kept
+
+    -- the run has a place for each slip that is counted
+    pub done_fits : count_of a ≤ length run'
+    done_fits = go out e fine (room_stands t (day_at stage tally c) call (length run))
+      where
+        count : Answer → Result Answer ℕ → ℕ
+        count d (Ok x) = count_of x
+        count d (Err n) = 0
+
+        go : (o : Outcome) → acted (Ok a) tally' c' run' ≡ acted_as tally c run o → Fine (stage_after stage call) o → FitsRun (length run) o → count_of a ≤ length run'
+        go (refused_by k) q f r = absurd (both_ways true (ap (λ (x : Acted). is_ok x.answer) q) refl)
+        go (done day b slips) q f r =
+            subst (λ (x : Acted). count a x.answer ≤ length x.run) (sym q)
+            (omega (arith, f.counted, length-append slips (drop (length slips) run), length-drop (length slips) run))
+
+    pub done_is : came_to (Ok a) (seen t (followed t c' call (take (count_of a) run') (record { stage = stage; tally = tally'; day = m })) c') run' ≡ works before call run
+    done_is = go out e fine
+      where
+        counts : Answer → Result Answer ℕ → Answer
+        counts d (Ok x) = x
+        counts d (Err n) = d
+
+        after : Acted → Worked
+        after x = came_to x.answer (seen t (followed t x.after call (take (count_of (counts a x.answer)) x.run) (record { stage = stage; tally = x.tally; day = m })) x.after) x.run
+
+        go : (o : Outcome) → acted (Ok a) tally' c' run' ≡ acted_as tally c run o → Fine (stage_after stage call) o →
+            came_to (Ok a) (seen t (followed t c' call (take (count_of a) run') (record { stage = stage; tally = tally'; day = m })) c') run' ≡ worked_by before call run o
+        go (refused_by k) q f = absurd (both_ways true (ap (λ (x : Acted). is_ok x.answer) q) refl)
+        go (done day b slips) q f =
+            ap after q
+            ∙ ap (λ ss. came_to (Ok b) (seen t (followed t day.table call ss (record { stage = stage; tally = day.tally; day = m })) day.table) (written_into run slips)) (taken run b slips f.counted)
+            ∙ ap (λ st. came_to (Ok b) (record { terms = t; session = record { day = record { stage = st; tally = day.tally; table = day.table }; marks = marked t stage call m (done day b slips) } }) (written_into run slips)) (sym f.staged)
+
+  -- what is worked by the rules is lawful
+  pub lawfully : (w : Worked) → w ≡ works before call run → Lawfully before call (length run) w
+  lawfully w e cap =
+      subst (λ (x : Worked). GoesOn t cap before.session (line_of call (length run) x) x.after.session) (sym e)
+      (subst (λ v. GoesOn t cap before.session (record { asked = trial call run; came = record { result = v; book = (moved (day_at stage tally c) out).table.book } }) (worked t call before.session out)) (sym (verdict_is (stage_after stage call) run out fine))
+      (going_on t cap before.session (trial call run)))

@@ -1,0 +1,86 @@
+-- What a session means, and what a call makes of it, by the rules.
+use Rattle.std.specs.Prelude.{◌≡◌, ℕ, List, take, length, Ok, Err, Result}
+use Rattle.rules.specs.declared.terms.Terms.{Terms}
+use Rattle.tables.specs.Meaning.{Capacity, Contents}
+use Rattle.book.specs.declared.answer.Answer.{Answer}
+use Rattle.book.specs.declared.answer.Answer.TheVariants.{Entered, Altered, Withdrawn, Advanced}
+use Rattle.book.specs.declared.call.Call.{Call}
+use Rattle.book.specs.declared.slip.Slip.{Slip}
+use Rattle.book.specs.Day.{Outcome, refused_by, done}
+use Rattle.book.specs.Journal.{Line}
+use Rattle.book.specs.Law.{Try, Verdict, refused, accepted}
+use Rattle.book.specs.Ending.{reference_by}
+use Rattle.book.specs.Leads.{outcome, Leads, GoesOn}
+use Rattle.book.specs.Marks.{Session, begun, worked}
+use Rattle.market.specs.declared.state.State.{State}
+use Rattle.market.specs.Outcome.{written_into}
+
+-- what a session means: its terms, and its day with what the next reference price needs
+pub record Seen : Type 0 where
+  pub terms : Terms
+  pub session : Session
+
+abbrev pub session_at : State → Contents → Session
+session_at s c = record { day = record { stage = s.stage; tally = s.tally; table = c }; marks = s.day }
+
+abbrev pub seen : Terms → State → Contents → Seen
+seen t s c = record { terms = t; session = session_at s c }
+
+-- a session that begins
+abbrev pub opened : Terms → Capacity → Seen
+opened t cap = record { terms = t; session = begun cap }
+
+abbrev pub trial : Call → List Slip → Try
+trial call run = record { call = call; room = length run }
+
+-- the answer or the refusal's number, the session and the run after a call
+pub record Worked : Type 0 where
+  pub answer : Result Answer ℕ
+  pub after : Seen
+  pub run : List Slip
+
+abbrev pub came_to : Result Answer ℕ → Seen → List Slip → Worked
+came_to answer s run = record { answer = answer; after = s; run = run }
+
+abbrev pub answered : Outcome → Result Answer ℕ
+answered (refused_by n) = Err n
+answered (done day a slips) = Ok a
+
+-- a refusal writes nothing
+abbrev pub run_after : List Slip → Outcome → List Slip
+run_after run (refused_by n) = run
+run_after run (done day a slips) = written_into run slips
+
+abbrev pub worked_by : Seen → Call → List Slip → Outcome → Worked
+worked_by s call run out =
+    came_to (answered out) (record { terms = s.terms; session = worked s.terms call s.session out }) (run_after run out)
+
+-- by the rules of the book
+abbrev pub works : Seen → Call → List Slip → Worked
+works s call run = worked_by s call run (outcome s.terms s.session.day (trial call run))
+
+-- what really came of a call ----------------------------------------------------------------------------------------
+
+-- how many slips an answer counts
+abbrev pub count_of : Answer → ℕ
+count_of (Entered n traded held slips) = slips
+count_of (Altered traded held slips) = slips
+count_of (Withdrawn v slips) = slips
+count_of (Advanced stage price traded slips) = slips
+
+-- an answer comes with the slips that it counts, from the run's first place on
+abbrev pub verdict : Result Answer ℕ → List Slip → Verdict
+verdict (Err n) run = refused n
+verdict (Ok a) run = accepted a (take (count_of a) run)
+
+-- the line of a call in a journal: over a run of so many places, what it answered, the run and the session after it
+abbrev pub line_of : Call → ℕ → Worked → Line
+line_of call room w = record { asked = record { call = call; room = room }; came = record { result = verdict w.answer w.run; book = w.after.session.day.table.book } }
+
+-- after whatever journal leads to the session before the call, its line is lawful, and leads on to the session after it
+abbrev pub Lawfully : Seen → Call → ℕ → Worked → Type 0
+Lawfully s call room w = (cap : Capacity) → GoesOn s.terms cap s.session (line_of call room w) w.after.session
+
+-- whatever journal leads to the session, the reference price that it leaves is the one that the journal gives
+abbrev pub EndsAs : Seen → ℕ → Type 0
+EndsAs s reference = (cap : Capacity) (past : List Line) → Leads s.terms cap past s.session → reference ≡ reference_by s.terms past

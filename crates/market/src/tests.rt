@@ -1,0 +1,112 @@
+use crate::session::Session;
+use book::answer::Answer;
+use book::slip::Slip;
+use rules::order::{Direction, Order};
+use rules::terms::Terms;
+use std::process::Abort;
+use std::test::Fail;
+use tables::queue::Queue;
+use tables::table::Table;
+
+fn lapse() -> Slip {
+    Slip::Lapse {
+        number: 0,
+        volume: 0,
+    }
+}
+
+// A day with an opening fixing, a trade in Open and a lapse.
+fn work_day<T: Table>(rt: &impl Abort, session: &mut Session<T>) -> Result<(), Fail> {
+    let mut run = [lapse(); 16];
+    assert!(rt;
+        session
+            .enter(1, Direction::Buy, Some(1050), 40, &mut run)
+            .is_ok()
+    );
+    assert!(rt;
+        session
+            .enter(2, Direction::Sell, Some(990), 30, &mut run)
+            .is_ok()
+    );
+    match session.enter(3, Direction::Buy, Some(1400), 10, &mut run) {
+        Err(refusal) => assert_eq!(rt; refusal.number(), 6),
+        Ok(_) => return Err(Fail::new("a price outside the band")),
+    }
+    let Ok(
+        Answer::Advanced {
+            price,
+            traded,
+            slips,
+            ..
+        },
+    ) = session.advance(&mut run)
+    else {
+        return Err(Fail::new("opening"));
+    };
+    assert_eq!(rt; price, Some(1000));
+    assert_eq!(rt; traded, 30);
+    assert_eq!(rt; slips, 1);
+    assert!(rt;
+        matches!(
+            run[0],
+            Slip::Trade {
+                buy: 1,
+                sell: 2,
+                price: 1000,
+                volume: 30
+            }
+        )
+    );
+    let Ok(
+        Answer::Entered {
+            number,
+            traded,
+            held,
+            slips,
+        },
+    ) = session.enter(4, Direction::Sell, None, 20, &mut run)
+    else {
+        return Err(Fail::new("market"));
+    };
+    assert_eq!(rt; number, 3);
+    assert_eq!(rt; traded, 10);
+    assert_eq!(rt; held, 0);
+    assert_eq!(rt; slips, 2);
+    assert!(rt;
+        matches!(
+            run[0],
+            Slip::Trade {
+                buy: 1,
+                sell: 3,
+                price: 1050,
+                volume: 10
+            }
+        )
+    );
+    assert!(rt;
+        matches!(
+            run[1],
+            Slip::Lapse {
+                number: 3,
+                volume: 10
+            }
+        )
+    );
+    assert!(rt; session.advance(&mut run).is_ok());
+    assert!(rt; session.advance(&mut run).is_ok());
+    Ok(())
+}
+
+#[test]
+fn day_works(rt: HostRuntime) -> Result<(), Fail> {
+    let mut places = [Order::limit(0, 0, Direction::Buy, 0, 0); 16];
+    let Ok(terms) = Terms::new(1000, 10) else {
+        return Err(Fail::new("terms"));
+    };
+    let mut session = Session::start(terms, Queue::new(&mut places));
+    let worked = work_day(&rt, &mut session);
+    let reference = session.end().next_reference();
+    worked?;
+    assert_eq!(rt; reference, 1050);
+    Ok(())
+}
