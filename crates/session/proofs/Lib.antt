@@ -1,0 +1,3 @@
+pub mod Terming
+pub mod Coming
+pub mod Rooms

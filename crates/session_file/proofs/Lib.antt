@@ -1,0 +1,8 @@
+mod Cutting
+mod Numbers
+mod Forms
+mod Calls
+mod Turns
+mod Whole
+mod Begun
+mod Printed

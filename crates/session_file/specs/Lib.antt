@@ -1,0 +1,10 @@
+pub mod Grammar
+pub mod Cut
+pub mod Reading
+pub mod Laws
+pub mod Lines
+pub mod Output
+pub mod Worked
+pub mod Answered
+pub mod Stops
+pub mod Files

@@ -1,0 +1,47 @@
+-- The lines that a session file is answered with, without their byte 10.
+use Rattle.std.specs.Prelude.{ℕ, List, [], ◌∷◌, Option, Some, None}
+use Rattle.std.specs.List.{join_with_byte}
+use Rattle.std.specs.Fmt.{decimal}
+use lib.Chars.{codes}
+use Rattle.rules.specs.Refusal.{number}
+use Rattle.book.specs.declared.answer.Answer.{Answer}
+use Rattle.book.specs.declared.answer.Answer.TheVariants.{Entered, Altered, Withdrawn, Advanced}
+use Rattle.book.specs.declared.slip.Slip.{Slip}
+use Rattle.book.specs.declared.slip.Slip.TheVariants.{Trade, Lapse}
+use Rattle.book.specs.declared.stage.Stage.{Stage}
+use Rattle.book.specs.declared.stage.Stage.TheVariants.{PreOpen, Open, PreClose, Closed}
+use Rattle.session_file.specs.declared.output.OutputLine.{OutputLine}
+use Rattle.session_file.specs.declared.output.OutputLine.TheVariants.{Accepted, Slipped, Refused, Broken, NextReference}
+
+-- fields with one space (32) between
+abbrev pub spaced : List (List ℕ) → List ℕ
+spaced fields = join_with_byte 32 fields
+
+abbrev pub stage_number : Stage → ℕ
+stage_number PreOpen = 1
+stage_number Open = 2
+stage_number PreClose = 3
+stage_number Closed = 4
+
+abbrev pub price_or_dash : Option ℕ → List ℕ
+price_or_dash (Some price) = decimal price
+price_or_dash None = codes "-"
+
+-- the counts of slips are not written
+abbrev pub answer_line : Answer → List ℕ
+answer_line (Entered number traded held slips) = spaced (codes "E" ∷ decimal number ∷ decimal traded ∷ decimal held ∷ [])
+answer_line (Altered traded held slips) = spaced (codes "A" ∷ decimal traded ∷ decimal held ∷ [])
+answer_line (Withdrawn volume slips) = spaced (codes "W" ∷ decimal volume ∷ [])
+answer_line (Advanced stage price traded slips) =
+    spaced (codes "N" ∷ decimal (stage_number stage) ∷ price_or_dash price ∷ decimal traded ∷ [])
+
+abbrev pub slip_line : Slip → List ℕ
+slip_line (Trade buy sell price volume) = spaced (codes "T" ∷ decimal buy ∷ decimal sell ∷ decimal price ∷ decimal volume ∷ [])
+slip_line (Lapse n volume) = spaced (codes "L" ∷ decimal n ∷ decimal volume ∷ [])
+
+abbrev pub line : OutputLine → List ℕ
+line (Accepted answer) = answer_line answer
+line (Slipped slip) = slip_line slip
+line (Refused refusal) = spaced (codes "R" ∷ decimal (number refusal) ∷ [])
+line (Broken fault) = spaced (codes "X" ∷ decimal fault.line ∷ [])
+line (NextReference reference) = spaced (codes "F" ∷ decimal reference ∷ [])

@@ -1,0 +1,73 @@
+// The fields of a line, one after the other.
+ghost use Rattle.std.specs.Prelude.{◌≡◌};
+ghost use Rattle.session_file.specs.Cut.{fields, left, is_empty, Taken};
+ghost use Rattle.session_file.specs.Reading.{letter_of, side_of, limit_of};
+
+use crate::cut::cut_at;
+use crate::number::number;
+use rules::order::Direction;
+
+#[derive(Drop)]
+pub struct Fields<'a> {
+    // nothing after the last field
+    rest: Option<&'a [u8]>,
+}
+
+impl<'a> Fields<'a> {
+    pub fn new(line: &'a [u8]) -> Fields<'a>
+        ensures { left result ≡ fields line.now }
+    {
+        Fields { rest: Some(line) }
+    }
+
+    pub fn next_field(&mut self) -> Option<&'a [u8]>
+        ensures { Taken (left self.old) result (left self.new) }
+    {
+        let rest = self.rest?;
+        match cut_at(rest, b' ') {
+            Some((field, behind)) => {
+                self.rest = Some(behind);
+                Some(field)
+            }
+            None => {
+                self.rest = None;
+                Some(rest)
+            }
+        }
+    }
+
+    pub fn is_empty(&self) -> bool
+        ensures { result ≡ is_empty (left self.now) }
+    {
+        self.rest.is_none()
+    }
+}
+
+pub fn letter(field: &[u8]) -> Option<char>
+    ensures { result ≡ letter_of field.now }
+{
+    match field {
+        [b] => Some(char::from(*b)),
+        _ => None,
+    }
+}
+
+pub fn side(field: &[u8]) -> Option<Direction>
+    ensures { result ≡ side_of field.now }
+{
+    match letter(field)? {
+        'B' => Some(Direction::Buy),
+        'S' => Some(Direction::Sell),
+        _ => None,
+    }
+}
+
+// A market order's price has no limit.
+pub fn limit(field: &[u8]) -> Option<Option<u32>>
+    ensures { result ≡ limit_of field.now }
+{
+    match letter(field) {
+        Some('M') => Some(None),
+        _ => number(field).map(Some),
+    }
+}

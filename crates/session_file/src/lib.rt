@@ -1,0 +1,16 @@
+// The session file: its lines read and written, and the text that a whole file is answered with.
+#![tactic(auto)]
+
+pub mod answer;
+mod cut;
+pub mod fault;
+mod fields;
+pub mod lines;
+pub mod number;
+pub mod output;
+pub mod put;
+pub mod reader;
+pub mod session;
+#[cfg(test)]
+mod tests;
+pub mod theorems;

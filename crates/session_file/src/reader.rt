@@ -1,0 +1,77 @@
+// The call that a line writes.
+ghost use Rattle.std.specs.Prelude.{◌≡◌, ◌↔◌, Some};
+ghost use Rattle.book.specs.declared.call.Call.{Call};
+ghost use Rattle.session_file.specs.Cut.{left};
+ghost use Rattle.session_file.specs.Grammar.{ReadsAs};
+ghost use Rattle.session_file.specs.Reading.{enter_of, alter_of, withdraw_of, advance_of, lettered_call, letter_of, taking, call_of};
+
+use crate::fields::{Fields, letter, limit, side};
+use crate::number::number;
+use book::call::Call;
+
+fn enter(mut fields: Fields) -> Option<Call>
+    ensures { result ≡ enter_of (left fields.entry) }
+{
+    let member = number(fields.next_field()?)?;
+    let direction = side(fields.next_field()?)?;
+    let limit = limit(fields.next_field()?)?;
+    let volume = number(fields.next_field()?)?;
+    fields.is_empty().then_some(Call::Enter {
+        member,
+        direction,
+        limit,
+        volume,
+    })
+}
+
+fn alter(mut fields: Fields) -> Option<Call>
+    ensures { result ≡ alter_of (left fields.entry) }
+{
+    let member = number(fields.next_field()?)?;
+    let number_held = number(fields.next_field()?)?;
+    let price = number(fields.next_field()?)?;
+    let wanted = number(fields.next_field()?)?;
+    fields.is_empty().then_some(Call::Alter {
+        member,
+        number: number_held,
+        price,
+        volume: wanted,
+    })
+}
+
+fn withdraw(mut fields: Fields) -> Option<Call>
+    ensures { result ≡ withdraw_of (left fields.entry) }
+{
+    let member = number(fields.next_field()?)?;
+    let number_held = number(fields.next_field()?)?;
+    fields.is_empty().then_some(Call::Withdraw {
+        member,
+        number: number_held,
+    })
+}
+
+fn advance(fields: Fields) -> Option<Call>
+    ensures { result ≡ advance_of (left fields.entry) }
+{
+    fields.is_empty().then_some(Call::Advance)
+}
+
+fn call(mut fields: Fields) -> Option<Call>
+    ensures { result ≡ taking letter_of (left fields.entry) lettered_call }
+{
+    match letter(fields.next_field()?)? {
+        'E' => enter(fields),
+        'A' => alter(fields),
+        'W' => withdraw(fields),
+        'N' => advance(fields),
+        _ => None,
+    }
+}
+
+// The call that a line reads as, if any.
+pub fn read_call(line: &[u8]) -> Option<Call>
+    ensures grammar { (call : Call) → (result ≡ Some call) ↔ ReadsAs line.now call }
+    ensures value { result ≡ call_of line.now }
+{
+    call(Fields::new(line))
+}
