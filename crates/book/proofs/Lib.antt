@@ -17,8 +17,9 @@ pub mod Example
 pub mod Flawed
 mod Arrivals
 pub mod Pinning
-mod Journals
+pub mod Journals
 pub mod Leading
 mod Refusing
 pub mod Endings
 pub mod Living
+pub mod Terming

@@ -1,5 +1,5 @@
--- An accepted call's slips fit its run.
-use Rattle.std.proofs.Common.{◌≡◌, ℕ, zero, suc, ◌+◌, ◌-◌, ◌≤◌, min, Bool, true, false, cond, not, ◌&&◌, ◌||◌, eqb, ltb, leb, List, [], ◌∷◌, ◌++◌, length, Some, None, Option, ⊎_elim, arith, length-append}
+-- An accepted call's slips are as many as its answer counts, and fit its run.
+use Rattle.std.proofs.Common.{◌≡◌, ℕ, zero, suc, ◌+◌, ◌-◌, ◌≤◌, min, Bool, true, false, cond, not, ◌&&◌, ◌||◌, eqb, ltb, leb, List, [], ◌∷◌, ◌++◌, length, Some, None, Option, refl, ⊎_elim, arith, length-append}
 use Rattle.std.proofs.lemmas.Bool.{cond_both, cases_lt, and_cases, and_parts, ltb-false, both_ways}
 use Rattle.rules.specs.declared.order.Direction.{Direction}
 use Rattle.rules.specs.declared.order.Direction.TheVariants.{Buy, Sell}
@@ -17,6 +17,7 @@ use Rattle.rules.specs.Book.{Book, side}
 use Rattle.rules.specs.Entry.{member_row, volume_row}
 use Rattle.tables.specs.Meaning.{Contents, held, holding, each_side, listed, lookup, removed}
 use Rattle.book.proofs.Sided.{length-without}
+use Rattle.book.specs.Counts.{slip_count}
 use Rattle.book.specs.Day.{Day, entering, altered, alter_tally, by_row, limit_row, Outcome, refused_by, advance, strike, short_strike, fixing_price, match_at, Paired, paired, pair, less, lapses, Swept, swept, sweep, trade, arrive, Reply, enter, alter, withdraw, refuse, owned, is_open, is_closed, full, short_run}
 use Rattle.book.specs.Room.{FitsRun, Room}
 use Rattle.book.proofs.Fixing.{less_length, less_shorter}
@@ -81,13 +82,16 @@ lapses_short (o ∷ xs) =
 strike_fits : (t : Terms) (day : Day) (room : ℕ) → length day.table.book.buys + length day.table.book.sells ≤ room → FitsRun room (strike t day)
 strike_fits t day room h =
     let m : Paired = match_at (fixing_price t day.table.book) day.table.book.buys day.table.book.sells in
-    let k = (match_used (fixing_price t day.table.book) day.table.book.buys day.table.book.sells).fits in
-    omega (
-      arith,
-      length-append m.slips (lapses m.buys ++ lapses m.sells),
-      length-append (lapses m.buys) (lapses m.sells),
-      lapses_short m.buys,
-      lapses_short m.sells,
+    let k = (match_used (fixing_price t day.table.book) day.table.book.buys day.table.book.sells).fits in (
+      refl,
+      omega (
+        arith,
+        length-append m.slips (lapses m.buys ++ lapses m.sells),
+        length-append (lapses m.buys) (lapses m.sells),
+        lapses_short m.buys,
+        lapses_short m.sells,
+        k,
+      ),
     )
 
 each_length : (d : Direction) (n : ℕ) (b : Book) → length (side d (each_side (without n) b)) ≤ length (side d b)
@@ -113,14 +117,15 @@ module _ (room : ℕ) where
 
   arrive_fits :
       (stage : Stage) (tally : ℕ) (e : Order) (T : Contents) (reply : Reply) (s : Swept) →
-      length s.slips + 1 ≤ room → FitsRun room (arrive stage tally e T reply s)
-  arrive_fits stage tally e T reply s h =
+      ((traded held n : ℕ) → slip_count (reply traded held n) ≡ n) → length s.slips + 1 ≤ room →
+      FitsRun room (arrive stage tally e T reply s)
+  arrive_fits stage tally e T reply s counts h =
       let last : length (cond (eqb s.left 0) [] (Lapse e.number s.left ∷ [])) ≤ 1 =
       cond_both (eqb s.left 0) [] (Lapse e.number s.left ∷ []) (λ l. length l ≤ 1) (λ _. omega arith) (λ _. omega arith)
       in
       cond_both e.market _ _ (FitsRun room)
-      (λ _. omega (arith, length-append s.slips (cond (eqb s.left 0) [] (Lapse e.number s.left ∷ []))))
-      (λ _. omega arith)
+      (λ _. (counts _ _ _, omega (arith, length-append s.slips (cond (eqb s.left 0) [] (Lapse e.number s.left ∷ [])), last, h)))
+      (λ _. (counts _ _ _, omega (arith, h)))
 
   -- the run is long enough for what stands on the other side
   open_room : (day : Day) (d : Direction) → short_run day room d ≡ false → is_open day.stage ≡ true → length (listed (opposite d) day.table) + 1 ≤ room
@@ -134,8 +139,9 @@ module _ (room : ℕ) where
       cond_both (is_open day.stage) _ _ (FitsRun room)
       (λ o.
       arrive_fits day.stage e.number e day.table (Entered e.number) (sweep e.direction e.number e.price against e.volume)
+      (λ traded held n. refl)
       (omega (arith, open_room day e.direction r o, (sweep_short e.direction e.number e.price against e.volume).fits)))
-      (λ _. omega arith)
+      (λ _. (refl, omega arith))
 
   alter_fits : (day : Day) (price volume : ℕ) (o : Order) → short_run day room o.direction ≡ false → FitsRun room (alter day price volume o)
   alter_fits day price volume o r =
@@ -146,19 +152,20 @@ module _ (room : ℕ) where
       let op = (and_parts (is_open day.stage) (not (eqb price o.price)) h).0 in
       arrive_fits day.stage (alter_tally day.tally price volume o) (altered day.tally price volume o) T Altered
       (sweep o.direction o.number price against volume)
+      (λ traded held n. refl)
       (omega (
         arith,
         open_room day o.direction r op,
         removed_short (opposite o.direction) o.number day.table,
         (sweep_short o.direction o.number price against volume).fits,
       )))
-      (λ _. omega arith)
+      (λ _. (refl, omega arith))
 
   advance_fits : (t : Terms) (day : Day) (s : Stage) → FitsRun room (advance t day room s)
   advance_fits t day PreOpen =
       refuse_fits (short_strike day room) 12 (strike t day)
       (λ h. strike_fits t day room (ltb-false room (length day.table.book.buys + length day.table.book.sells) h))
-  advance_fits t day Open = omega arith
+  advance_fits t day Open = (refl, omega arith)
   advance_fits t day PreClose =
       refuse_fits (short_strike day room) 12 (strike t day)
       (λ h. strike_fits t day room (ltb-false room (length day.table.book.buys + length day.table.book.sells) h))
@@ -188,5 +195,5 @@ room_stands t day (Alter member n price volume) room =
 room_stands t day (Withdraw member n) room =
     refuse_fits room (is_closed day.stage) 3 _ (λ _.
     passed_fits room (member_row member) _ (
-    owned_fits room member (lookup n day.table.book) (withdraw day) (λ o. omega arith)))
+    owned_fits room member (lookup n day.table.book) (withdraw day) (λ o. (refl, omega arith))))
 room_stands t day Advance room = advance_fits room t day day.stage

@@ -2,7 +2,6 @@
 use Rattle.std.specs.Prelude.{◌≡◌, ℕ, Bool, true, false, cond, ◌&&◌, List, [], ◌∷◌, Some, None, Option, ◌==◌}
 use Rattle.std.specs.Option.{option_or, unwrap_or}
 use Rattle.rules.specs.Book.{Book, side}
-use Rattle.rules.specs.Reference.{next_reference_under}
 use Rattle.rules.specs.declared.order.Direction.{Direction}
 use Rattle.rules.specs.declared.order.Direction.TheVariants.{Buy, Sell}
 use Rattle.rules.specs.declared.order.Order.{Order}
@@ -17,7 +16,7 @@ use Rattle.book.specs.declared.stage.Stage.TheVariants.{PreOpen, Open, PreClose,
 use Rattle.book.specs.Journal.{Line, books}
 use Rattle.book.specs.Law.{Verdict, refused, accepted}
 use Rattle.book.specs.Leads.{Leads}
-use Rattle.book.specs.Marks.{Session, left_by}
+use Rattle.book.specs.Marks.{Session, reference_left}
 
 -- In the journal's words ----------------------------------------------------------------------------------------------
 
@@ -89,4 +88,4 @@ reference_by t past = reference_at t (books t past).stage past
 abbrev pub EndsByJournal : Type 0
 EndsByJournal =
     (t : Terms) (cap : Capacity) (past : List Line) (s : Session) → Leads t cap past s →
-    next_reference_under t (left_by s.day.stage s.marks) ≡ reference_by t past
+    reference_left t s ≡ reference_by t past

@@ -1,5 +1,6 @@
 pub mod Exactly
 pub mod Rules
+pub mod Counts
 pub mod Ledger
 pub mod Day
 pub mod Law

@@ -2,6 +2,8 @@
 use Rattle.std.specs.Prelude.{ℕ, Bool, false, ◌&&◌, List, [], ◌∷◌, Some, None, Option, ◌==◌}
 use Rattle.book.specs.declared.stage.Stage.{Stage}
 use Rattle.book.specs.declared.stage.Stage.TheVariants.{PreOpen, Open, PreClose, Closed}
+use Rattle.rules.specs.Book.{Book}
+use Rattle.rules.specs.Reference.{next_reference_under}
 use Rattle.rules.specs.declared.order.Order.{Order}
 use Rattle.rules.specs.declared.terms.Terms.{Terms}
 use Rattle.book.specs.declared.slip.Slip.{Slip}
@@ -40,15 +42,19 @@ mark_on PreOpen (Withdraw member n) old now' = old
 mark_on PreClose c old now' = old
 mark_on Closed c old now' = old
 
--- the marks after a call that was made in this stage
-abbrev pub marked : Terms → Stage → Call → DayRecord → Outcome → DayRecord
-marked t stage c m (refused_by n) = m
-marked t stage c m (done day a slips) =
+-- the marks after an accepted call that was made in this stage, wrote these slips and left this book
+abbrev pub marks_after : Terms → Stage → Call → DayRecord → List Slip → Book → DayRecord
+marks_after t stage c m slips b =
     record {
       last_trade = last_price m.last_trade slips;
-      buy_at_high = mark_on stage c m.buy_at_high (first_at t.hi day.table.book.buys);
-      sell_at_low = mark_on stage c m.sell_at_low (first_at t.lo day.table.book.sells);
+      buy_at_high = mark_on stage c m.buy_at_high (first_at t.hi b.buys);
+      sell_at_low = mark_on stage c m.sell_at_low (first_at t.lo b.sells);
     }
+
+-- a refused call leaves them as they were
+abbrev pub marked : Terms → Stage → Call → DayRecord → Outcome → DayRecord
+marked t stage c m (refused_by n) = m
+marked t stage c m (done day a slips) = marks_after t stage c m slips day.table.book
 
 -- a session that was ended before Closed leaves nothing
 abbrev pub left_by : Stage → DayRecord → Option DayRecord
@@ -61,6 +67,10 @@ left_by Closed m = Some m
 pub record Session : Type 0 where
   pub day : Day
   pub marks : DayRecord
+
+-- the reference price that it leaves
+abbrev pub reference_left : Terms → Session → ℕ
+reference_left t s = next_reference_under t (left_by s.day.stage s.marks)
 
 abbrev pub begun : Capacity → Session
 begun cap = record { day = new cap; marks = unmarked }

@@ -1,4 +1,5 @@
--- The price of a market order, and the stages of a day: rules of the model that the ledger writes in its own words.
+-- The price of a market order, and the stages of a day: rules of the model that the ledger writes in its own words; and
+-- the numbers of the stages.
 use Rattle.std.specs.Prelude.{ℕ}
 use Rattle.rules.specs.declared.order.Direction.{Direction}
 use Rattle.rules.specs.declared.order.Direction.TheVariants.{Buy, Sell}
@@ -16,3 +17,10 @@ next PreOpen = Open
 next Open = PreClose
 next PreClose = Closed
 next Closed = Closed
+
+-- the number that a stage is shown as
+abbrev pub stage_number : Stage → ℕ
+stage_number PreOpen = 1
+stage_number Open = 2
+stage_number PreClose = 3
+stage_number Closed = 4

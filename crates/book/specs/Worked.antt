@@ -1,7 +1,6 @@
 -- Days worked by the rules, call after call.
 use Rattle.std.specs.Prelude.{◌≡◌, ℕ, List, [], ◌∷◌, Some, None, refl}
 use Rattle.std.proofs.Common.{lit≤}
-use Rattle.rules.specs.Reference.{next_reference_under}
 use Rattle.rules.specs.declared.order.Direction.TheVariants.{Buy, Sell}
 use Rattle.rules.specs.declared.terms.Terms.{Terms}
 use Rattle.tables.specs.Meaning.{Capacity}
@@ -12,7 +11,7 @@ use Rattle.book.specs.declared.slip.Slip.TheVariants.{Trade, Lapse}
 use Rattle.book.specs.declared.stage.Stage.TheVariants.{Open, PreClose, Closed}
 use Rattle.book.specs.Law.{Try, Verdict, refused, accepted}
 use Rattle.book.specs.Leads.{outcome}
-use Rattle.book.specs.Marks.{Session, begun, worked, left_by}
+use Rattle.book.specs.Marks.{Session, begun, worked, reference_left}
 use Rattle.book.specs.Model.{result}
 
 -- reference price 1000, block 10, and so the band 700 to 1300; the last six are the facts that every terms has
@@ -75,9 +74,7 @@ expected =
 
 -- the next reference price that a day of these calls leaves
 abbrev pub left_after : List Call → ℕ
-left_after cs =
-    let s : Session = all_worked terms_of_the_day (begun places) cs in
-    next_reference_under terms_of_the_day (left_by s.day.stage s.marks)
+left_after cs = reference_left terms_of_the_day (all_worked terms_of_the_day (begun places) cs)
 
 -- the three calls that end a day
 abbrev pub advances : List Call

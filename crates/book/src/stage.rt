@@ -1,13 +1,13 @@
 // The part of the day, and the one after it.
 ghost use Rattle.std.specs.Prelude.{◌≡◌};
-ghost use Rattle.book.specs.Rules.{next};
+ghost use Rattle.book.specs.Rules.{next, stage_number};
 
 #[derive(Clone, Copy, Debug, PartialEq, Eq)]
 pub enum Stage {
-    PreOpen,
-    Open,
-    PreClose,
-    Closed,
+    PreOpen = 1,
+    Open = 2,
+    PreClose = 3,
+    Closed = 4,
 }
 
 impl Stage {
@@ -21,5 +21,12 @@ impl Stage {
             Stage::PreClose => Stage::Closed,
             Stage::Closed => Stage::Closed,
         }
+    }
+
+    // The number that the stage is shown as.
+    pub fn number(self) -> u32
+        ensures { result ≡ stage_number self }
+    {
+        self as u32
     }
 }

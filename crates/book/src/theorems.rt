@@ -40,7 +40,7 @@ pub fn slips_at_every_split()
     ensures { SlipsAtSplits }
 {}
 
-// The slips of a call never pass the end of a run that it was not refused for.
+// The slips of a call are as many as it answers, and never pass the end of a run that it was not refused for.
 #[tactic(auto, using(crate::proofs::Rooms::room_stands))]
 pub fn room_stands()
     ensures { Room }
@@ -64,7 +64,7 @@ pub fn worked_day_holds()
     ensures { WorkedDay }
 {}
 
-// A call for each refusal, and of two refusals that meet the first.
+// A call for each refusal, of two that meet the first, and at the edge of each what just passes.
 #[tactic(auto, using(crate::proofs::Example::refusals))]
 pub fn refusals_by_example()
     ensures { RefusalsByExample }

@@ -1,16 +1,43 @@
--- The three ways in which an alter changes its order.
-use Rattle.std.proofs.Common.{◌≡◌, ℕ, suc, ◌+◌, ◌<◌, ◌≤◌, Bool, true, false, not, cond, ◌&&◌, ◌||◌, ◌==◌, nat_lt, List, Some, Ok, refl, sym, ap, ◌∙◌, arith, add-one}
+-- The ways in which an alter changes its order.
+use Rattle.std.proofs.Common.{◌≡◌, ℕ, suc, ◌+◌, ◌<◌, ◌≤◌, Bool, true, false, not, cond, ◌&&◌, ◌||◌, ◌==◌, nat_lt, List, [], ◌∷◌, set, zero, Some, Ok, refl, sym, ap, ◌∙◌, arith, add-one}
 use Rattle.std.proofs.lemmas.Bool.{ne_eqb, eq-eqb, lt-ltb, le-ltb, or_left, cond-true}
+use Rattle.std.specs.List.{slice_get}
+use Rattle.rules.specs.declared.order.Direction.{Direction}
+use Rattle.rules.specs.declared.order.Direction.TheVariants.{Buy, Sell}
 use Rattle.rules.specs.declared.order.Order.{Order}
 use Rattle.tables.specs.Listing.{with_volume}
-use Rattle.tables.specs.Meaning.{Contents, Sound, lookup, volume_set, put_in}
+use Rattle.tables.specs.Meaning.{Contents, Sound, listed, lookup, volume_set, put_in}
+use Rattle.tables.proofs.Numbers.{set_volume_at}
 use Rattle.book.specs.declared.slip.Slip.{Slip}
 use Rattle.book.specs.declared.stage.Stage.{Stage}
 use Rattle.book.specs.Day.{moves, is_open}
 use Rattle.market.specs.declared.alters.Wanted.{Wanted}
 use Rattle.market.specs.Altered.{left_by, again, as_placed, Changed, changed, changes}
+use Rattle.market.specs.Fills.{on_side}
 use Rattle.market.specs.Rows.{Placed, placed}
 use Rattle.market.proofs.Altering.{Held, looked_up, kept_in_place, takes_again}
+use Rattle.market.proofs.Taking.{get_is, stands, few, set_listed}
+
+set_back : (xs : List Order) (i : ℕ) (o : Order) → slice_get xs i ≡ Some o → set xs i o ≡ xs
+set_back [] i o h = refl
+set_back (x ∷ xs) zero o h = let y : x ≡ o = cc in ap (λ z. z ∷ xs) (sym y)
+set_back (x ∷ xs) (suc i) o h = ap (λ ys. x ∷ ys) (set_back xs i o h)
+
+side_back : (d : Direction) (c : Contents) → on_side d (listed d c) c ≡ c
+side_back Buy c = refl
+side_back Sell c = refl
+
+-- an order that is given its own volume leaves the table as it was
+as_it_was : (c : Contents) → Sound c → (o : Order) → lookup o.number c.book ≡ Some o → 0 < o.volume → c ≡ volume_set o.number o.volume c
+as_it_was c s o found some =
+    let d = o.direction in
+    let at : Held o.number c o = looked_up o.number c s o found in
+    let sv = set_volume_at o.number o.volume (listed d c) at.rank o (stands c s d at.rank o at.there) (few c s d at.rank o at.there) in
+    sym (
+    set_listed c s d at.rank o at.there o.volume (λ z. omega arith)
+    ∙ ap (λ ys. on_side d ys c) (sym (ap (λ z. set (listed d c) at.rank (with_volume o.volume z)) (sym (get_is (listed d c) at.rank o o at.there)) ∙ sv) ∙ set_back (listed d c) at.rank o at.there)
+    ∙ side_back d c
+    )
 
 abbrev renewed : ℕ → Wanted → Order → Order
 renewed tally w o = record { number = o.number; member = o.member; direction = o.direction; price = w.price; market = o.market; volume = w.volume; arrival = tally + 1 }
@@ -63,3 +90,10 @@ module _ (stage : Stage) (tally : ℕ) (w : Wanted) (o : Order) (c : Contents) (
       (λ i. changed tally (placed (Ok (record { traded = 0; held = w.volume; written = 0 })) (there i) run))
       ∙ (λ i. changed tally (as_placed (again false (e i) c run)))
       ∙ (λ i. whole (t i) (sym m i))
+
+  pub same : Sound c → lookup o.number c.book ≡ Some o → 0 < w.volume → w.price ≡ o.price → w.volume ≡ o.volume →
+      changed tally (placed (Ok (record { traded = 0; held = o.volume; written = 0 })) c run) ≡ changes stage tally w o c run
+  same s found some price volume =
+      let there : c ≡ volume_set o.number w.volume c = as_it_was c s o found (omega (arith, some, volume)) ∙ ap (λ v. volume_set o.number v c) (sym volume) in
+      ap (λ v. changed tally (placed (Ok (record { traded = 0; held = v; written = 0 })) c run)) (sym volume)
+      ∙ kept s found some price (omega (arith, volume)) c there

@@ -11,10 +11,10 @@ use Rattle.tables.specs.Meaning.{Contents, listed, lookup}
 use Rattle.market.specs.declared.alters.Wanted.{Wanted}
 use Rattle.book.specs.declared.call.Call.TheVariants.{Enter, Alter, Withdraw}
 use Rattle.book.specs.declared.stage.Stage.{Stage}
-use Rattle.book.specs.Day.{Day, Outcome, refused_by, refuse, entering, is_closed, is_open, full, short_run}
+use Rattle.book.specs.Day.{Day, Outcome, refused_by, refuse, entering, is_closed, is_open, full, short_run, limit_row}
 use Rattle.book.specs.Day as day_words
 use Rattle.market.specs.Outcome.{day_at, outcome_at}
-use Rattle.market.specs.Rows.{closed_row, limit_row, entry_rows, arrivals_row, side_row, run_row, by_row, alter_rows, named, owned, altering, withdrawing}
+use Rattle.market.specs.Rows.{closed_row, entry_rows, arrivals_row, side_row, run_row, by_row, alter_rows, named, owned, altering, withdrawing}
 
 -- the rows in turn
 pub in_turn : (a b : Option ℕ) (out : Outcome) → day_words.by_row a (day_words.by_row b out) ≡ day_words.by_row (option_or a b) out
@@ -32,17 +32,12 @@ not_not false = refl
 le_test : (m n : ℕ) → nat_le m n ≡ not (nat_lt n m)
 le_test m n = grind (arith, nat_tests)
 
-limit_same : (t : Terms) (limit : Option ℕ) → day_words.limit_row t limit ≡ limit_row t limit
-limit_same t None = refl
-limit_same t (Some p) = refl
-
 pub entry_is : (t : Terms) (stage : Stage) (member : ℕ) (limit : Option ℕ) (volume : ℕ) (out : Outcome) →
-    refuse (is_closed stage) 3 (day_words.by_row (member_row member) (day_words.by_row (volume_row t.block volume) (day_words.by_row (day_words.limit_row t limit) out)))
+    refuse (is_closed stage) 3 (day_words.by_row (member_row member) (day_words.by_row (volume_row t.block volume) (day_words.by_row (limit_row t limit) out)))
     ≡ day_words.by_row (entry_rows t stage member limit volume) out
 entry_is t stage member limit volume out =
     let rest = day_words.by_row (member_row member) (day_words.by_row (volume_row t.block volume) (day_words.by_row (limit_row t limit) out)) in
-    ap (λ r. refuse (is_closed stage) 3 (day_words.by_row (member_row member) (day_words.by_row (volume_row t.block volume) (day_words.by_row r out)))) (limit_same t limit)
-    ∙ row_of _ (not (is_closed stage)) 3 rest (not_not (is_closed stage))
+    row_of _ (not (is_closed stage)) 3 rest (not_not (is_closed stage))
     ∙ ap (day_words.by_row (closed_row stage)) (ap (day_words.by_row (member_row member)) (in_turn (volume_row t.block volume) (limit_row t limit) out) ∙ in_turn (member_row member) _ out)
     ∙ in_turn (closed_row stage) _ out
 
@@ -86,7 +81,7 @@ enter_is t stage tally c member d limit volume room =
   where
     outcome_by : ℕ → Outcome
     outcome_by n =
-        refuse (is_closed stage) 3 (day_words.by_row (member_row member) (day_words.by_row (volume_row t.block volume) (day_words.by_row (day_words.limit_row t limit)
+        refuse (is_closed stage) 3 (day_words.by_row (member_row member) (day_words.by_row (volume_row t.block volume) (day_words.by_row (limit_row t limit)
         (refuse (nat_le 1000000 tally) 10 (refuse (full c d) 11 (refuse (short_run (day_at stage tally c) room d) 12
         (day_words.enter (day_at stage tally c) (entering t n member d limit volume))))))))
 

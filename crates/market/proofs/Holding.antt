@@ -1,5 +1,5 @@
--- A call by the rules leaves no number above the last arrival, no more orders than arrivals, and counts its slips.
-use Rattle.std.proofs.Common.{◌≡◌, ℕ, suc, ◌+◌, ◌<◌, ◌≤◌, Bool, true, false, cond, not, ◌&&◌, ◌==◌, nat_le, List, length, Some, None, Option, refl, sym, ap, ◌∙◌, arith, ⊎_elim, zero-add}
+-- A call by the rules leaves no number above the last arrival, and no more orders than arrivals.
+use Rattle.std.proofs.Common.{◌≡◌, ℕ, suc, ◌+◌, ◌<◌, ◌≤◌, Bool, true, false, cond, not, ◌&&◌, ◌==◌, nat_le, List, Some, None, Option, refl, sym, ap, ◌∙◌, arith, ⊎_elim, zero-add}
 use Rattle.std.proofs.lemmas.Bool.{cond_both, both_ways, leb-false, ne_eqb, cases_lt}
 use Rattle.rules.specs.Entry.{member_row, volume_row}
 use Rattle.rules.specs.Rank.{before}
@@ -13,13 +13,11 @@ use Rattle.tables.specs.Meaning.{Contents, Sound, listed, holding, book_of, each
 use Rattle.tables.proofs.Keeps.{held_none}
 use Rattle.tables.proofs.Numbers.{counted-insert}
 use Rattle.tables.proofs.Ranking.{length-insert}
-use Rattle.book.specs.declared.answer.Answer.{Answer}
 use Rattle.book.specs.declared.answer.Answer.TheVariants.{Entered, Altered}
 use Rattle.book.specs.Rules.{next}
 use Rattle.market.specs.Follow.{stage_after}
 use Rattle.book.specs.declared.call.Call.{Call}
 use Rattle.book.specs.declared.call.Call.TheVariants.{Enter, Alter, Withdraw, Advance}
-use Rattle.book.specs.declared.slip.Slip.{Slip}
 use Rattle.book.specs.declared.stage.Stage.{Stage}
 use Rattle.book.specs.declared.stage.Stage.TheVariants.{PreOpen, Open, PreClose, Closed}
 use Rattle.book.specs.Day.{Day, Outcome, refused_by, done, entering, altered, alter_tally, moves, by_row, limit_row, refuse, owned, is_open, is_closed, full, short_run, short_strike, Reply, Swept, sweep, dealt, placed, arrive, queue, enter, alter, withdraw, advance, strike, step, Paired, match_at, limits, fixing_price}
@@ -27,7 +25,6 @@ use Rattle.book.proofs.Sided.{length-without}
 use Rattle.market.specs.Fills.{on_side}
 use Rattle.market.specs.Strikes.{orders_of}
 use Rattle.market.specs.Outcome.{Kept, day_at}
-use Rattle.market.specs.Works.{count_of}
 use Rattle.market.proofs.Altering.{Held, looked_up}
 use Rattle.market.proofs.Keeping.{Part, part_same, sweep_part, match_part, limits_part, without_part, part_trans}
 use Rattle.market.proofs.Taking.{is_held}
@@ -108,15 +105,14 @@ module _ (tally tally' : ℕ) (c : Contents) (h : Kept tally c) (later : tally �
 
 -- Of an outcome ------------------------------------------------------------------------------------------------------------
 
--- the arrivals and the table after it are kept, the answer counts the slips, and the stage is this
-pub record Right (stage : Stage) (day : Day) (a : Answer) (slips : List Slip) : Type 0 where
+-- the arrivals and the table after it are kept, and the stage is this
+pub record Right (stage : Stage) (day : Day) : Type 0 where
   pub kept : Kept day.tally day.table
-  pub counted : count_of a ≡ length slips
   pub staged : day.stage ≡ stage
 
 abbrev pub Fine : Stage → Outcome → Type 0
 Fine stage (refused_by n) = Unit {0}
-Fine stage (done day a slips) = Right stage day a slips
+Fine stage (done day a slips) = Right stage day
 
 refuse_fine : (at : Stage) (b : Bool) (n : ℕ) (out : Outcome) → (b ≡ false → Fine at out) → Fine at (refuse b n out)
 refuse_fine at b n out h = cond_both b (refused_by n) out (Fine at) (λ _. tt) h
@@ -125,20 +121,16 @@ row_fine : (at : Stage) (row : Option ℕ) (out : Outcome) → Fine at out → F
 row_fine at None out h = h
 row_fine at (Some n) out h = tt
 
--- a reply that counts the slips that it is told
-abbrev Counts : Reply → Type 0
-Counts reply = (traded held slips : ℕ) → count_of (reply traded held slips) ≡ slips
-
-module _ (tally tally' : ℕ) (c : Contents) (h : Kept tally c) (later : tally ≤ tally') (most : tally' ≤ 1000000) (reply : Reply) (counts : Counts reply) where
+module _ (tally tally' : ℕ) (c : Contents) (h : Kept tally c) (later : tally ≤ tally') (most : tally' ≤ 1000000) (reply : Reply) where
   arrive_fine : (stage : Stage) (x : Contents) (e : Order) (s : Swept) → Fewer (dealt e.direction s.rest x) c → e.number ≤ tally' → orders_of (dealt e.direction s.rest x) + 1 ≤ tally' →
       Fine stage (arrive stage tally' e x reply s)
   arrive_fine stage x e s f below room =
       cond_both e.market _ _ (Fine stage)
-      (λ _. record { kept = kept_fewer tally tally' c h later most (dealt e.direction s.rest x) f; counted = counts _ _ _; staged = refl })
-      (λ _. record { kept = kept_placed tally tally' c h later most (dealt e.direction s.rest x) e s.left f below room; counted = counts _ _ _; staged = refl })
+      (λ _. record { kept = kept_fewer tally tally' c h later most (dealt e.direction s.rest x) f; staged = refl })
+      (λ _. record { kept = kept_placed tally tally' c h later most (dealt e.direction s.rest x) e s.left f below room; staged = refl })
 
   queue_fine : (stage : Stage) (x : Contents) (e : Order) → Fewer x c → e.number ≤ tally' → orders_of x + 1 ≤ tally' → Fine stage (queue stage tally' e x reply)
-  queue_fine stage x e f below room = record { kept = kept_added tally tally' c h later most x e f below room; counted = counts _ _ _; staged = refl }
+  queue_fine stage x e f below room = record { kept = kept_added tally tally' c h later most x e f below room; staged = refl }
 
 fewer_trans : (x y z : Contents) → Fewer x y → Fewer y z → Fewer x z
 fewer_trans x y z h k =
@@ -156,10 +148,10 @@ module _ (stage : Stage) (tally : ℕ) (c : Contents) (h : Kept tally c) (s : So
       cond_both (is_open stage) _ _ (Fine stage)
       (λ _.
       let f = dealt_fewer e.direction e.number e.price e.volume c in
-      arrive_fine tally e.number c h (omega (arith, number)) (omega (arith, number, lt)) (Entered e.number) (λ a b k. refl) stage c e
+      arrive_fine tally e.number c h (omega (arith, number)) (omega (arith, number, lt)) (Entered e.number) stage c e
       (sweep e.direction e.number e.price (listed (opposite e.direction) c) e.volume) f (omega arith) (omega (arith, f.orders, h.fewer, number)))
       (λ _.
-      queue_fine tally e.number c h (omega (arith, number)) (omega (arith, number, lt)) (Entered e.number) (λ a b k. refl) stage c e (fewer_same c) (omega arith)
+      queue_fine tally e.number c h (omega (arith, number)) (omega (arith, number, lt)) (Entered e.number) stage c e (fewer_same c) (omega arith)
       (omega (arith, h.fewer, number)))
 
   alter_fine : (price volume : ℕ) (o : Order) → held o.number c.book ≡ true → tally < 1000000 → Fine stage (alter day price volume o)
@@ -180,13 +172,13 @@ module _ (stage : Stage) (tally : ℕ) (c : Contents) (h : Kept tally c) (s : So
       let g : Fewer (dealt o.direction (sweep o.direction o.number price (listed (opposite o.direction) x) volume).rest x) x =
       dealt_fewer o.direction o.number price volume x
       in
-      arrive_fine tally tally' c h later most Altered (λ a b k. refl) stage x e
+      arrive_fine tally tally' c h later most Altered stage x e
       (sweep o.direction o.number price (listed (opposite o.direction) x) volume)
       (fewer_trans _ x c g f) (omega (arith, below, later)) (omega (arith, g.orders, one, h.fewer, later)))
-      (λ _. queue_fine tally tally' c h later most Altered (λ a b k. refl) stage x e f (omega (arith, below, later)) (omega (arith, one, h.fewer, later)))
+      (λ _. queue_fine tally tally' c h later most Altered stage x e f (omega (arith, below, later)) (omega (arith, one, h.fewer, later)))
 
   withdraw_fine : (o : Order) → Fine stage (withdraw day o)
-  withdraw_fine o = record { kept = kept_fewer tally tally c h (omega arith) h.most (removed o.number c) (removed_fewer o.number c); counted = refl; staged = refl }
+  withdraw_fine o = record { kept = kept_fewer tally tally c h (omega arith) h.most (removed o.number c) (removed_fewer o.number c); staged = refl }
 
   strike_fine : (t : Terms) → Fine (next stage) (strike t day)
   strike_fine t =
@@ -197,7 +189,6 @@ module _ (stage : Stage) (tally : ℕ) (c : Contents) (h : Kept tally c) (s : So
         kept =
             kept_fewer tally tally c h (omega arith) h.most (holding c (book_of (limits m.buys) (limits m.sells)))
             (of_parts c (limits m.buys) (limits m.sells) (part_trans _ m.buys _ (limits_part m.buys) p.0) (part_trans _ m.sells _ (limits_part m.sells) p.1));
-        counted = refl;
         staged = refl;
       }
 
@@ -212,7 +203,7 @@ module _ (stage : Stage) (tally : ℕ) (c : Contents) (h : Kept tally c) (s : So
 
   advance_fine : (t : Terms) (room : ℕ) (at : Stage) → stage ≡ at → Fine (next stage) (advance t day room at)
   advance_fine t room PreOpen e = refuse_fine (next stage) (short_strike day room) 12 (strike t day) (λ _. strike_fine t)
-  advance_fine t room Open e = record { kept = h; counted = refl; staged = sym (ap next e) }
+  advance_fine t room Open e = record { kept = h; staged = sym (ap next e) }
   advance_fine t room PreClose e = refuse_fine (next stage) (short_strike day room) 12 (strike t day) (λ _. strike_fine t)
   advance_fine t room Closed e = tt
 

@@ -10,9 +10,10 @@ use Rattle.book.specs.declared.answer.Answer.{Answer}
 use Rattle.book.specs.declared.call.Call.{Call}
 use Rattle.book.specs.declared.slip.Slip.{Slip}
 use Rattle.book.specs.declared.stage.Stage.{Stage}
+use Rattle.book.specs.Counts.{slip_count}
 use Rattle.book.specs.Day.{Outcome, refused_by, done, step}
 use Rattle.book.specs.Law.{accepted}
-use Rattle.book.specs.Leads.{GoesOn}
+use Rattle.book.specs.Leads.{GoesOn, outcome}
 use Rattle.book.specs.Marks.{Session, worked, marked}
 use Rattle.book.specs.Model.{moved, result}
 use Rattle.book.specs.Room.{FitsRun}
@@ -20,7 +21,7 @@ use Rattle.book.proofs.Leading.{going_on}
 use Rattle.book.proofs.Rooms.{room_stands}
 use Rattle.market.specs.Follow.{stage_after, followed}
 use Rattle.market.specs.Outcome.{Kept, day_at, written_into, Acted, acted, acted_as, acts}
-use Rattle.market.specs.Works.{Seen, seen, trial, Worked, came_to, answered, run_after, worked_by, works, count_of, verdict, line_of, Lawfully}
+use Rattle.market.specs.Works.{Seen, seen, trial, Worked, came_to, answered, run_after, worked_by, works, counted, verdict, line_of, Lawfully}
 use Rattle.market.proofs.Holding.{Fine, step_fine}
 
 abbrev is_ok : Result Answer ℕ → Bool
@@ -28,12 +29,49 @@ is_ok (Ok a) = true
 is_ok (Err n) = false
 
 -- the slips that an answer counts are those that were written
-taken : (run : List Slip) (a : Answer) (slips : List Slip) → count_of a ≡ length slips → take (count_of a) (written_into run slips) ≡ slips
+taken : (run : List Slip) (a : Answer) (slips : List Slip) → slip_count a ≡ length slips → take (slip_count a) (written_into run slips) ≡ slips
 taken run a slips e = ap (λ n. take n (written_into run slips)) e ∙ take-append_seam slips (drop (length slips) run)
 
-verdict_is : (at : Stage) (run : List Slip) (out : Outcome) → Fine at out → verdict (answered out) (run_after run out) ≡ result out
-verdict_is at run (refused_by n) f = refl
-verdict_is at run (done day a slips) f = ap (accepted a) (taken run a slips f.counted)
+room_for : (run slips : List Slip) (n : ℕ) → n ≡ length slips → length slips ≤ length run → n ≤ length (written_into run slips)
+room_for run slips n e f = omega (arith, length-append slips (drop (length slips) run), length-drop (length slips) run)
+
+verdict_is : (run : List Slip) (out : Outcome) → FitsRun (length run) out → verdict (answered out) (run_after run out) ≡ result out
+verdict_is run (refused_by n) f = refl
+verdict_is run (done day a slips) f = ap (accepted a) (taken run a slips f.0)
+
+-- Of what is worked by the rules --------------------------------------------------------------------------------------------
+
+module _ (s : Seen) (call : Call) (run : List Slip) where
+  abbrev came : Outcome
+  came = outcome s.terms s.session.day (trial call run)
+
+  fit : FitsRun (length run) came
+  fit = room_stands s.terms s.session.day call (length run)
+
+  counted_fits : (out : Outcome) → FitsRun (length run) out → counted (answered out) ≤ length (run_after run out)
+  counted_fits (refused_by n) f = omega arith
+  counted_fits (done day a slips) f = room_for run slips (slip_count a) f.0 f.1
+
+  counted_written : (out : Outcome) → FitsRun (length run) out → run_after run out ≡ written_into run (take (counted (answered out)) (run_after run out))
+  counted_written (refused_by n) f = refl
+  counted_written (done day a slips) f = ap (written_into run) (sym (taken run a slips f.0))
+
+  module _ (w : Worked) (e : w ≡ works s call run) where
+    -- the run has a place for each slip that the answer counts
+    pub fits : counted w.answer ≤ length w.run
+    fits = subst (λ (x : Worked). counted x.answer ≤ length x.run) (sym e) (counted_fits came fit)
+
+    -- and behind them it is as it was
+    pub wrote : w.run ≡ written_into run (take (counted w.answer) w.run)
+    wrote = subst (λ (x : Worked). x.run ≡ written_into run (take (counted x.answer) x.run)) (sym e) (counted_written came fit)
+
+    pub lawfully : Lawfully s call (length run) w
+    lawfully cap =
+        subst (λ (x : Worked). GoesOn s.terms cap s.session (line_of call (length run) x) x.after.session) (sym e)
+        (subst (λ v. GoesOn s.terms cap s.session (record { asked = trial call run; came = record { result = v; book = (moved s.session.day came).table.book } }) (worked s.terms call s.session came)) (sym (verdict_is run came fit))
+        (going_on s.terms cap s.session (trial call run)))
+
+-- Of what a call makes of the parts of a session ------------------------------------------------------------------------------
 
 abbrev session_of : Stage → ℕ → DayRecord → Contents → Session
 session_of stage tally m c = record { day = record { stage = stage; tally = tally; table = c }; marks = m }
@@ -75,41 +113,24 @@ module _ (t : Terms) (stage : Stage) (tally : ℕ) (m : DayRecord) (c : Contents
         go (refused_by k) q f = absurd (both_ways true (ap (λ (x : Acted). is_ok x.answer) q) refl)
         go (done day b slips) q f = subst (λ (x : Acted). Kept x.tally x.after) (sym q) f.kept
 
-    -- the run has a place for each slip that is counted
-    pub done_fits : count_of a ≤ length run'
-    done_fits = go out e fine (room_stands t (day_at stage tally c) call (length run))
+    pub done_fits : slip_count a ≤ length run'
+    done_fits = go out e (room_stands t (day_at stage tally c) call (length run))
       where
-        count : Answer → Result Answer ℕ → ℕ
-        count d (Ok x) = count_of x
-        count d (Err n) = 0
-
-        go : (o : Outcome) → acted (Ok a) tally' c' run' ≡ acted_as tally c run o → Fine (stage_after stage call) o → FitsRun (length run) o → count_of a ≤ length run'
-        go (refused_by k) q f r = absurd (both_ways true (ap (λ (x : Acted). is_ok x.answer) q) refl)
-        go (done day b slips) q f r =
-            subst (λ (x : Acted). count a x.answer ≤ length x.run) (sym q)
-            (omega (arith, f.counted, length-append slips (drop (length slips) run), length-drop (length slips) run))
-
-    pub done_is : came_to (Ok a) (seen t (followed t c' call (take (count_of a) run') (record { stage = stage; tally = tally'; day = m })) c') run' ≡ works before call run
-    done_is = go out e fine
-      where
-        counts : Answer → Result Answer ℕ → Answer
-        counts d (Ok x) = x
-        counts d (Err n) = d
-
-        after : Acted → Worked
-        after x = came_to x.answer (seen t (followed t x.after call (take (count_of (counts a x.answer)) x.run) (record { stage = stage; tally = x.tally; day = m })) x.after) x.run
-
-        go : (o : Outcome) → acted (Ok a) tally' c' run' ≡ acted_as tally c run o → Fine (stage_after stage call) o →
-            came_to (Ok a) (seen t (followed t c' call (take (count_of a) run') (record { stage = stage; tally = tally'; day = m })) c') run' ≡ worked_by before call run o
+        go : (o : Outcome) → acted (Ok a) tally' c' run' ≡ acted_as tally c run o → FitsRun (length run) o → slip_count a ≤ length run'
         go (refused_by k) q f = absurd (both_ways true (ap (λ (x : Acted). is_ok x.answer) q) refl)
         go (done day b slips) q f =
-            ap after q
-            ∙ ap (λ ss. came_to (Ok b) (seen t (followed t day.table call ss (record { stage = stage; tally = day.tally; day = m })) day.table) (written_into run slips)) (taken run b slips f.counted)
-            ∙ ap (λ st. came_to (Ok b) (record { terms = t; session = record { day = record { stage = st; tally = day.tally; table = day.table }; marks = marked t stage call m (done day b slips) } }) (written_into run slips)) (sym f.staged)
+            subst (λ (x : Acted). counted x.answer ≤ length x.run) (sym q) (room_for run slips (slip_count b) f.0 f.1)
 
-  -- what is worked by the rules is lawful
-  pub lawfully : (w : Worked) → w ≡ works before call run → Lawfully before call (length run) w
-  lawfully w e cap =
-      subst (λ (x : Worked). GoesOn t cap before.session (line_of call (length run) x) x.after.session) (sym e)
-      (subst (λ v. GoesOn t cap before.session (record { asked = trial call run; came = record { result = v; book = (moved (day_at stage tally c) out).table.book } }) (worked t call before.session out)) (sym (verdict_is (stage_after stage call) run out fine))
-      (going_on t cap before.session (trial call run)))
+    pub done_is : came_to (Ok a) (seen t (followed t c' call (take (slip_count a) run') (record { stage = stage; tally = tally'; day = m })) c') run' ≡ works before call run
+    done_is = go out e fine (room_stands t (day_at stage tally c) call (length run))
+      where
+        after : Acted → Worked
+        after x = came_to x.answer (seen t (followed t x.after call (take (counted x.answer) x.run) (record { stage = stage; tally = x.tally; day = m })) x.after) x.run
+
+        go : (o : Outcome) → acted (Ok a) tally' c' run' ≡ acted_as tally c run o → Fine (stage_after stage call) o → FitsRun (length run) o →
+            came_to (Ok a) (seen t (followed t c' call (take (slip_count a) run') (record { stage = stage; tally = tally'; day = m })) c') run' ≡ worked_by before call run o
+        go (refused_by k) q f r = absurd (both_ways true (ap (λ (x : Acted). is_ok x.answer) q) refl)
+        go (done day b slips) q f r =
+            ap after q
+            ∙ ap (λ ss. came_to (Ok b) (seen t (followed t day.table call ss (record { stage = stage; tally = day.tally; day = m })) day.table) (written_into run slips)) (taken run b slips r.0)
+            ∙ ap (λ st. came_to (Ok b) (record { terms = t; session = record { day = record { stage = st; tally = day.tally; table = day.table }; marks = marked t stage call m (done day b slips) } }) (written_into run slips)) (sym f.staged)

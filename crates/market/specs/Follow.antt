@@ -7,7 +7,7 @@ use Rattle.book.specs.declared.call.Call.TheVariants.{Enter, Alter, Withdraw, Ad
 use Rattle.book.specs.declared.slip.Slip.{Slip}
 use Rattle.book.specs.declared.stage.Stage.{Stage}
 use Rattle.book.specs.Rules.{next}
-use Rattle.book.specs.Marks.{last_price, mark_on, first_at}
+use Rattle.book.specs.Marks.{marks_after}
 use Rattle.market.specs.declared.state.State.{State}
 
 -- only an advance moves to the next stage
@@ -23,10 +23,5 @@ followed t c call slips s =
     record {
       stage = stage_after s.stage call;
       tally = s.tally;
-      day =
-          record {
-            last_trade = last_price s.day.last_trade slips;
-            buy_at_high = mark_on s.stage call s.day.buy_at_high (first_at t.hi c.book.buys);
-            sell_at_low = mark_on s.stage call s.day.sell_at_low (first_at t.lo c.book.sells);
-          };
+      day = marks_after t s.stage call s.day slips c.book;
     }

@@ -1,7 +1,7 @@
 -- The rows of the refusals, each as the number or none where it passes.
 use Rattle.std.specs.Prelude.{ℕ, ◌+◌, Bool, true, false, cond, not, List, length, Some, None, Ok, Err, Option, Result, ◌==◌, nat_le, nat_lt}
 use Rattle.std.specs.Option.{option_or}
-use Rattle.rules.specs.Entry.{unless, member_row, volume_row, price_row}
+use Rattle.rules.specs.Entry.{unless, member_row, volume_row}
 use Rattle.rules.specs.Refusal.{number}
 use Rattle.rules.specs.Side.{opposite}
 use Rattle.rules.specs.declared.order.Direction.{Direction}
@@ -10,7 +10,7 @@ use Rattle.rules.specs.declared.order.Order.{Order}
 use Rattle.rules.specs.declared.refusal.Refusal.{Refusal}
 use Rattle.rules.specs.declared.terms.Terms.{Terms}
 use Rattle.tables.specs.Meaning.{Contents, listed, lookup, added}
-use Rattle.book.specs.Day.{is_closed, is_open}
+use Rattle.book.specs.Day.{is_closed, is_open, limit_row}
 use Rattle.book.specs.declared.stage.Stage.{Stage}
 use Rattle.book.specs.declared.slip.Slip.{Slip}
 use Rattle.market.specs.declared.alters.Wanted.{Wanted}
@@ -19,10 +19,6 @@ use Rattle.market.specs.Fills.{Filled, filled, arrived}
 
 abbrev pub closed_row : Stage → Option ℕ
 closed_row stage = unless (not (is_closed stage)) 3
-
-abbrev pub limit_row : Terms → Option ℕ → Option ℕ
-limit_row t None = None
-limit_row t (Some p) = price_row t.lo t.hi p
 
 -- the first row that holds
 abbrev pub entry_rows : Terms → Stage → ℕ → Option ℕ → ℕ → Option ℕ

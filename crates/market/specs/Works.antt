@@ -3,9 +3,9 @@ use Rattle.std.specs.Prelude.{◌≡◌, ℕ, List, take, length, Ok, Err, Resul
 use Rattle.rules.specs.declared.terms.Terms.{Terms}
 use Rattle.tables.specs.Meaning.{Capacity, Contents}
 use Rattle.book.specs.declared.answer.Answer.{Answer}
-use Rattle.book.specs.declared.answer.Answer.TheVariants.{Entered, Altered, Withdrawn, Advanced}
 use Rattle.book.specs.declared.call.Call.{Call}
 use Rattle.book.specs.declared.slip.Slip.{Slip}
+use Rattle.book.specs.Counts.{slip_count}
 use Rattle.book.specs.Day.{Outcome, refused_by, done}
 use Rattle.book.specs.Journal.{Line}
 use Rattle.book.specs.Law.{Try, Verdict, refused, accepted}
@@ -61,17 +61,15 @@ works s call run = worked_by s call run (outcome s.terms s.session.day (trial ca
 
 -- what really came of a call ----------------------------------------------------------------------------------------
 
--- how many slips an answer counts
-abbrev pub count_of : Answer → ℕ
-count_of (Entered n traded held slips) = slips
-count_of (Altered traded held slips) = slips
-count_of (Withdrawn v slips) = slips
-count_of (Advanced stage price traded slips) = slips
+-- how many slips what a call answers counts; a refusal counts none
+abbrev pub counted : Result Answer ℕ → ℕ
+counted (Err n) = 0
+counted (Ok a) = slip_count a
 
 -- an answer comes with the slips that it counts, from the run's first place on
 abbrev pub verdict : Result Answer ℕ → List Slip → Verdict
 verdict (Err n) run = refused n
-verdict (Ok a) run = accepted a (take (count_of a) run)
+verdict (Ok a) run = accepted a (take (slip_count a) run)
 
 -- the line of a call in a journal: over a run of so many places, what it answered, the run and the session after it
 abbrev pub line_of : Call → ℕ → Worked → Line

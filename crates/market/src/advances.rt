@@ -23,8 +23,7 @@ fn leave<T: Table>(
     run: &mut [Slip],
 ) -> Result<Struck, Refusal>
     requires { orders_of (T.Table.contents table.old) ≤ 1000000 }
-    ensures whole { left_with (told result) (T.Table.contents table.new) run.new ≡ leaves terms.now stage (T.Table.contents table.old) run.old }
-    ensures few { IfOk result (λ s. s.written ≤ 1000000) }
+    ensures { left_with (told result) (T.Table.contents table.new) run.new ≡ leaves terms.now stage (T.Table.contents table.old) run.old }
 {
     match stage {
         Stage::PreOpen | Stage::PreClose => {

@@ -67,8 +67,7 @@ fn enter_again<T: Table>(
 ) -> Result<Fill, Refusal>
     requires stands { ((o : Order) × (lookup order.number (T.Table.contents table.old).book ≡ Some o) × (o.direction ≡ order.direction)) }
     requires long { trades ≡ true → length (listed (opposite order.direction) (T.Table.contents table.old)) < length run.old }
-    ensures whole { placed (told result) (T.Table.contents table.new) run.new ≡ as_placed (again trades order (T.Table.contents table.old) run.old) }
-    ensures few { IfOk result (λ f. f.written ≤ length (listed (opposite order.direction) (T.Table.contents table.old)) + 1) }
+    ensures { placed (told result) (T.Table.contents table.new) run.new ≡ as_placed (again trades order (T.Table.contents table.old) run.old) }
 {
     table.remove(order.number).map_err(|_no| Refusal::NotHeld)?;
     if trades {
@@ -100,8 +99,8 @@ fn renewed(tally: &mut u32, order: &Order, wanted: &Wanted) -> Order
     }
 }
 
-// Another price or a greater volume takes a new arrival, and another price trades in Open; a smaller volume, or the same,
-// keeps its place.
+// Another price or a greater volume takes a new arrival, and another price trades in Open; a smaller volume keeps its
+// place; with neither changed the order stays as it is.
 fn change<T: Table>(
     stage: Stage,
     tally: &mut u32,
@@ -114,21 +113,27 @@ fn change<T: Table>(
     requires some { 0 < wanted.volume }
     requires found { lookup order.number (T.Table.contents table.old).book ≡ Some order }
     requires long { run_row stage (length run.old) order.direction (T.Table.contents table.old) ≡ None }
-    ensures whole { changed tally.new (placed (told result) (T.Table.contents table.new) run.new) ≡ changes stage tally.old wanted order (T.Table.contents table.old) run.old }
-    ensures few { IfOk result (λ f. f.written ≤ length (listed (opposite order.direction) (T.Table.contents table.old)) + 1) }
+    ensures { changed tally.new (placed (told result) (T.Table.contents table.new) run.new) ≡ changes stage tally.old wanted order (T.Table.contents table.old) run.old }
 {
     match (order, wanted) {
         (o, w) if w.price != o.price => {
             enter_again(table, renewed(tally, &o, &w), trades_in(stage), run)
         }
         (o, w) if w.volume > o.volume => { enter_again(table, renewed(tally, &o, &w), false, run) }
-        (o, w) => {
+        (o, w) if w.volume < o.volume => {
             table
                 .set_volume(o.number, w.volume)
                 .map_err(|_no| Refusal::NotHeld)?;
             Ok(Fill {
                 traded: 0,
                 held: w.volume,
+                written: 0,
+            })
+        }
+        (o, _) => {
+            Ok(Fill {
+                traded: 0,
+                held: o.volume,
                 written: 0,
             })
         }

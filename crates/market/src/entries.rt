@@ -30,7 +30,7 @@ pub struct Fill {
 
 // What a caller wants to enter.
 #[derive(Clone, Copy)]
-pub struct Entry {
+pub struct NewOrder {
     pub member: u32,
     pub direction: Direction,
     pub limit: Option<u32>,
@@ -49,7 +49,7 @@ fn limit_price(terms: &Terms, direction: Direction, limit: Option<u32>) -> u32
 }
 
 // The order that an entry makes with the arrival, which is its number too.
-fn order_of(terms: &Terms, arrival: u32, entry: Entry) -> Order
+fn order_of(terms: &Terms, arrival: u32, entry: NewOrder) -> Order
     ensures { result ≡ entering terms.now arrival entry.member entry.direction entry.limit entry.volume }
 {
     Order {
@@ -117,12 +117,11 @@ fn arrive_on<S: Side, T: Table>(table: &mut T, order: Order, run: &mut [Slip]) -
     settle(table, order, swept, run)
 }
 
-// The one place where an order's side goes from a value to a type.
+// Here the side of an order goes from a value to a type.
 pub fn arrive<T: Table>(table: &mut T, order: Order, run: &mut [Slip]) -> Fill
     requires room { takes (T.Table.contents table.old) order ≡ true }
     requires long { length (listed (opposite order.direction) (T.Table.contents table.old)) < length run.old }
-    ensures whole { filled result.traded result.held result.written (T.Table.contents table.new) run.new ≡ arrived order (T.Table.contents table.old) run.old }
-    ensures few { result.written ≤ length (listed (opposite order.direction) (T.Table.contents table.old)) + 1 }
+    ensures { filled result.traded result.held result.written (T.Table.contents table.new) run.new ≡ arrived order (T.Table.contents table.old) run.old }
 {
     match order.direction {
         Direction::Buy => arrive_on::<Buys, T>(table, order, run),
@@ -151,8 +150,7 @@ fn place<T: Table>(
     run: &mut [Slip],
 ) -> Result<Fill, Refusal>
     requires { held order.number (T.Table.contents table.old).book ≡ false }
-    ensures whole { placed (told result) (T.Table.contents table.new) run.new ≡ places_of stage order (T.Table.contents table.old) run.old }
-    ensures few { IfOk result (λ f. f.written ≤ length (listed (opposite order.direction) (T.Table.contents table.old)) + 1) }
+    ensures { placed (told result) (T.Table.contents table.new) run.new ≡ places_of stage order (T.Table.contents table.old) run.old }
 {
     match stage {
         Stage::Open => {
@@ -169,7 +167,7 @@ pub fn enter<T: Table>(
     stage: Stage,
     tally: &mut u32,
     table: &mut T,
-    entry: Entry,
+    entry: NewOrder,
     run: &mut [Slip],
 ) -> Result<Answer, Refusal>
     requires { Kept tally.old (T.Table.contents table.old) }

@@ -1,9 +1,11 @@
 // A whole list of calls, worked from a new session on, and the journal of what came of each.
-ghost use Rattle.std.specs.Prelude.{◌≡◌, IfOk, length};
-ghost use Rattle.market.specs.Works.{seen};
-ghost use Rattle.market.specs.Journaled.{Journaled, Entered, counted};
+ghost use Rattle.std.specs.Prelude.{◌≡◌, IfOk, IsOk, length};
+ghost use Rattle.market.specs.Outcome.{written_into};
+ghost use Rattle.market.specs.Rows.{told};
+ghost use Rattle.market.specs.Works.{counted};
+ghost use Rattle.market.specs.Journaled.{Journaled, Follows, run_through};
 
-use crate::session::{Session, slips_of};
+use crate::session::Session;
 use book::answer::Answer;
 use book::call::Call;
 use book::slip::Slip;
@@ -23,10 +25,10 @@ pub struct Entry {
 
 // The slips that an answer counts; a refusal counts none.
 fn written(answer: &Result<Answer, Refusal>) -> usize
-    ensures { result ≡ counted answer.now }
+    ensures { result ≡ counted (told answer.now) }
 {
     match answer {
-        Ok(accepted) => slips_of(accepted),
+        Ok(accepted) => accepted.slips(),
         Err(_) => 0,
     }
 }
@@ -38,8 +40,8 @@ fn enter_line<T: Table>(
     call: Call,
     run: &mut [Slip],
 ) -> Result<Entry, AllocError>
-    ensures entered { IfOk result (λ e. Entered (seen session.old.terms session.old.state (T.Table.contents session.old.table)) call (length run.old) e (seen session.new.terms session.new.state (T.Table.contents session.new.table))) }
-    ensures room { length run.new ≡ length run.old }
+    ensures follows { IfOk result (λ e. Follows session.old call (length run.old) e session.new) }
+    ensures run { IfOk result (λ e. run.new ≡ written_into run.old e.slips.items) }
 {
     let answer = session.work(call, run);
     let slips = Vec::from_slice(heap, &run[..written(&answer)])?;
@@ -62,7 +64,9 @@ pub fn work_all<T: Table>(
 ) -> Result<(Vec<Entry>, Session<T>), AllocError>
 where
     T: Drop,
-    ensures { IfOk result (λ r. Journaled terms (T.Table.contents table).capacity calls.now (length run.old) r.0.items (seen r.1.terms r.1.state (T.Table.contents r.1.table))) }
+    ensures journal { IfOk result (λ r. Journaled terms (T.Table.contents table).capacity calls.now (length run.old) r.0.items r.1) }
+    ensures run { IfOk result (λ r. run.new ≡ run_through run.old r.0.items) }
+    ensures empty { length calls.now ≡ 0 → IsOk result }
 {
     let mut session = Session::start(terms, table);
     let mut journal = Vec::with_capacity(heap, calls.len())?;

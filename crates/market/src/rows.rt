@@ -2,7 +2,9 @@
 ghost use Rattle.std.specs.Prelude.{◌≡◌, ◌≤◌, ◌+◌, length};
 ghost use Rattle.rules.specs.Entry.{answer};
 ghost use Rattle.tables.specs.Meaning.{listed, lookup};
-ghost use Rattle.market.specs.Rows.{told, closed_row, limit_row, arrivals_row, side_row, run_row, strike_row, entry_rows, owned};
+ghost use Rattle.book.specs.Day.{limit_row};
+ghost use Rattle.market.specs.Strikes.{orders_of};
+ghost use Rattle.market.specs.Rows.{told, closed_row, arrivals_row, side_row, run_row, strike_row, entry_rows, owned};
 
 use book::stage::Stage;
 use rules::entry::{check_member, check_price, check_volume};
@@ -81,7 +83,7 @@ pub fn check_run<T: Table>(
 
 // A strike may write a slip for each order held.
 pub fn check_strike<T: Table>(table: &T, room: usize) -> Result<(), Refusal>
-    requires { length (listed Direction.Buy (T.Table.contents table.now)) + length (listed Direction.Sell (T.Table.contents table.now)) ≤ 1000000 }
+    requires { orders_of (T.Table.contents table.now) ≤ 1000000 }
     ensures { answer result ≡ strike_row room (T.Table.contents table.now) }
 {
     if room < table.count(Direction::Buy) + table.count(Direction::Sell) {
@@ -92,7 +94,7 @@ pub fn check_strike<T: Table>(table: &T, room: usize) -> Result<(), Refusal>
 
 // The order with a number, if it is held for the member.
 pub fn find_owned<T: Table>(table: &T, member: u32, number: u32) -> Result<Order, Refusal>
-    ensures { owned member (lookup number (T.Table.contents table.now).book) ≡ told result }
+    ensures { told result ≡ owned member (lookup number (T.Table.contents table.now).book) }
 {
     match table.find(number) {
         None => Err(Refusal::NotHeld),

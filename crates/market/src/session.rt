@@ -1,15 +1,14 @@
 // The session: from start, call after call, to its end.
 ghost use Rattle.std.specs.Prelude.{◌≡◌, ◌≤◌, IfOk, length};
-ghost use Rattle.rules.specs.Reference.{next_reference_under};
-ghost use Rattle.book.specs.Marks.{left_by};
+ghost use Rattle.book.specs.Marks.{left_by, reference_left};
 ghost use Rattle.book.specs.declared.call.Call.TheVariants.{Enter, Alter, Withdraw, Advance};
 ghost use Rattle.market.specs.Outcome.{Kept, acted, acts};
 ghost use Rattle.market.specs.Rows.{told};
-ghost use Rattle.market.specs.Works.{seen, opened, count_of, came_to, works, Lawfully, EndsAs};
+ghost use Rattle.market.specs.Works.{opened, came_to, works, Lawfully, EndsAs};
 
 use crate::advances::advance;
 use crate::alters::{Wanted, alter, withdraw};
-use crate::entries::{Entry, enter};
+use crate::entries::{NewOrder, enter};
 use crate::state::State;
 use book::answer::Answer;
 use book::call::Call;
@@ -19,6 +18,7 @@ use rules::order::Direction;
 use rules::reference::{DayRecord, EndedDay};
 use rules::refusal::Refusal;
 use rules::terms::Terms;
+use std::marker::Model;
 use tables::table::Table;
 
 #[derive(Drop)]
@@ -26,13 +26,24 @@ pub struct Session<T: Table> {
     terms: Terms,
     state: State,
     table: T,
-    ghost kept: { Kept state.tally (T.Table.contents table) },
+}
+
+// A session means its terms, and its day with what the next reference price needs.
+impl<T: Table> Model for Session<T> {
+    ghost use Rattle.market.specs.Outcome.{Kept};
+    ghost use Rattle.market.specs.Works.{Seen, seen};
+
+    ghost Value = { Seen };
+
+    ghost view = { λ s. seen s.terms s.state (T.Table.contents s.table) };
+
+    ghost invariant = { λ s. Kept s.state.tally (T.Table.contents s.table) };
 }
 
 impl<T: Table> Session<T> {
     // A session owns its table, and clears it.
     pub fn start(terms: Terms, table: T) -> Session<T>
-        ensures { seen result.terms result.state (T.Table.contents result.table) ≡ opened terms (T.Table.contents table).capacity }
+        ensures { result ≡ opened terms (T.Table.contents table).capacity }
     {
         let mut table = table;
         table.clear();
@@ -55,8 +66,8 @@ impl<T: Table> Session<T> {
     pub fn end(self) -> EndedDay
     where
         T: Drop,
-        ensures marks { result.reference ≡ next_reference_under self.terms (left_by self.state.stage self.state.day) }
-        ensures journal { EndsAs (seen self.terms self.state (T.Table.contents self.table)) result.reference }
+        ensures marks { result.reference ≡ reference_left self.terms self.session }
+        ensures journal { EndsAs self result.reference }
     {
         let Session {
             terms,
@@ -69,9 +80,8 @@ impl<T: Table> Session<T> {
 
     // Works any call, over a run of any length.
     pub fn work(&mut self, call: Call, run: &mut [Slip]) -> Result<Answer, Refusal>
-        ensures outcome { came_to (told result) (seen self.new.terms self.new.state (T.Table.contents self.new.table)) run.new ≡ works (seen self.old.terms self.old.state (T.Table.contents self.old.table)) call run.old }
-        ensures lawful { Lawfully (seen self.old.terms self.old.state (T.Table.contents self.old.table)) call (length run.old) (came_to (told result) (seen self.new.terms self.new.state (T.Table.contents self.new.table)) run.new) }
-        ensures fits { IfOk result (λ a. count_of a ≤ length run.new) }
+        ensures outcome { came_to (told result) self.new run.new ≡ works self.old call run.old }
+        ensures lawful { Lawfully self.old call (length run.old) (came_to (told result) self.new run.new) }
     {
         let answer = act(
             &self.terms,
@@ -81,7 +91,7 @@ impl<T: Table> Session<T> {
             call,
             run,
         )?;
-        let slips = &run[..slips_of(&answer)];
+        let slips = &run[..answer.slips()];
         self.state.follow(&self.terms, &self.table, &call, slips);
         Ok(answer)
     }
@@ -94,8 +104,8 @@ impl<T: Table> Session<T> {
         volume: u32,
         run: &mut [Slip],
     ) -> Result<Answer, Refusal>
-        ensures outcome { came_to (told result) (seen self.new.terms self.new.state (T.Table.contents self.new.table)) run.new ≡ works (seen self.old.terms self.old.state (T.Table.contents self.old.table)) (Enter member direction limit volume) run.old }
-        ensures lawful { Lawfully (seen self.old.terms self.old.state (T.Table.contents self.old.table)) (Enter member direction limit volume) (length run.old) (came_to (told result) (seen self.new.terms self.new.state (T.Table.contents self.new.table)) run.new) }
+        ensures outcome { came_to (told result) self.new run.new ≡ works self.old (Enter member direction limit volume) run.old }
+        ensures lawful { Lawfully self.old (Enter member direction limit volume) (length run.old) (came_to (told result) self.new run.new) }
     {
         let call = Call::Enter {
             member,
@@ -114,8 +124,8 @@ impl<T: Table> Session<T> {
         volume: u32,
         run: &mut [Slip],
     ) -> Result<Answer, Refusal>
-        ensures outcome { came_to (told result) (seen self.new.terms self.new.state (T.Table.contents self.new.table)) run.new ≡ works (seen self.old.terms self.old.state (T.Table.contents self.old.table)) (Alter member number price volume) run.old }
-        ensures lawful { Lawfully (seen self.old.terms self.old.state (T.Table.contents self.old.table)) (Alter member number price volume) (length run.old) (came_to (told result) (seen self.new.terms self.new.state (T.Table.contents self.new.table)) run.new) }
+        ensures outcome { came_to (told result) self.new run.new ≡ works self.old (Alter member number price volume) run.old }
+        ensures lawful { Lawfully self.old (Alter member number price volume) (length run.old) (came_to (told result) self.new run.new) }
     {
         let call = Call::Alter {
             member,
@@ -132,15 +142,15 @@ impl<T: Table> Session<T> {
         number: u32,
         run: &mut [Slip],
     ) -> Result<Answer, Refusal>
-        ensures outcome { came_to (told result) (seen self.new.terms self.new.state (T.Table.contents self.new.table)) run.new ≡ works (seen self.old.terms self.old.state (T.Table.contents self.old.table)) (Withdraw member number) run.old }
-        ensures lawful { Lawfully (seen self.old.terms self.old.state (T.Table.contents self.old.table)) (Withdraw member number) (length run.old) (came_to (told result) (seen self.new.terms self.new.state (T.Table.contents self.new.table)) run.new) }
+        ensures outcome { came_to (told result) self.new run.new ≡ works self.old (Withdraw member number) run.old }
+        ensures lawful { Lawfully self.old (Withdraw member number) (length run.old) (came_to (told result) self.new run.new) }
     {
         self.work(Call::Withdraw { member, number }, run)
     }
 
     pub fn advance(&mut self, run: &mut [Slip]) -> Result<Answer, Refusal>
-        ensures outcome { came_to (told result) (seen self.new.terms self.new.state (T.Table.contents self.new.table)) run.new ≡ works (seen self.old.terms self.old.state (T.Table.contents self.old.table)) Advance run.old }
-        ensures lawful { Lawfully (seen self.old.terms self.old.state (T.Table.contents self.old.table)) Advance (length run.old) (came_to (told result) (seen self.new.terms self.new.state (T.Table.contents self.new.table)) run.new) }
+        ensures outcome { came_to (told result) self.new run.new ≡ works self.old Advance run.old }
+        ensures lawful { Lawfully self.old Advance (length run.old) (came_to (told result) self.new run.new) }
     {
         self.work(Call::Advance, run)
     }
@@ -153,18 +163,6 @@ fn left_of(state: &State) -> Option<DayRecord>
     match state.stage {
         Stage::Closed => Some(state.day),
         _ => None,
-    }
-}
-
-// The slips that an answer counts.
-pub fn slips_of(answer: &Answer) -> usize
-    ensures { result ≡ count_of answer.now }
-{
-    match *answer {
-        Answer::Entered { slips, .. }
-        | Answer::Altered { slips, .. }
-        | Answer::Withdrawn { slips, .. }
-        | Answer::Advanced { slips, .. } => slips,
     }
 }
 
@@ -187,7 +185,7 @@ fn act<T: Table>(
             limit,
             volume,
         } => {
-            let entry = Entry {
+            let entry = NewOrder {
                 member,
                 direction,
                 limit,

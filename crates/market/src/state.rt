@@ -52,7 +52,8 @@ fn last_trade(before: Option<u32>, slips: &[Slip]) -> Option<u32>
 }
 
 impl State {
-    // After an accepted call: the last trade, the stage, and whether the first orders still stand at the limits.
+    // After an accepted call: the last trade, the stage, and whether the first orders still stand at the ends of the
+    // band.
     pub fn follow<T: Table>(&mut self, terms: &Terms, table: &T, call: &Call, slips: &[Slip])
         ensures { self.new ≡ followed terms.now (T.Table.contents table.now) call.now slips.now self.old }
     {

@@ -102,8 +102,7 @@ fn pair_at<T: Table>(table: &mut T, price: Option<u32>, run: &mut [Slip]) -> (u1
 fn lapse_both<T: Table>(table: &mut T, before: usize, run: &mut [Slip]) -> usize
     requires room { before + orders_of (T.Table.contents table.old) ≤ length run.old }
     requires few { orders_of (T.Table.contents table.old) ≤ 1000000 }
-    ensures whole { lapsed result (T.Table.contents table.new) run.new ≡ lapse_all before (T.Table.contents table.old) run.old }
-    ensures fewer { result ≤ before + orders_of (T.Table.contents table.old) }
+    ensures { lapsed result (T.Table.contents table.new) run.new ≡ lapse_all before (T.Table.contents table.old) run.old }
 {
     let written = lapse(table, Direction::Buy, before, run);
     lapse(table, Direction::Sell, written, run)
@@ -115,7 +114,6 @@ pub fn strike<T: Table>(terms: &Terms, table: &mut T, run: &mut [Slip]) -> Struc
     requires few { orders_of (T.Table.contents table.old) ≤ 1000000 }
     ensures price { result.price ≡ fixing_price terms.now (T.Table.contents table.old).book }
     ensures whole { struck result.traded result.written (T.Table.contents table.new) run.new ≡ struck_at result.price (T.Table.contents table.old) run.old }
-    ensures fewer { result.written ≤ orders_of (T.Table.contents table.old) }
 {
     let price = price_of(terms, table);
     let (traded, written) = pair_at(table, price, run);

@@ -1,3 +1,1 @@
-pub mod Terming
-pub mod Coming
-pub mod Rooms
+mod TooLong

@@ -2,7 +2,12 @@ mod Cutting
 mod Numbers
 mod Forms
 mod Calls
-mod Turns
+mod Gathering
+mod Telling
+mod Terming
+mod Ends
+mod Breaking
+mod Lawful
 mod Whole
 mod Begun
 mod Printed

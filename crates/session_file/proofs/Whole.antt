@@ -1,20 +1,24 @@
 -- A file that says terms and calls is answered call after call.
-use Rattle.std.proofs.Common.{◌≡◌, ℕ, ◌+◌, true, false, leb, ltb, List, [], ◌∷◌, ◌++◌, Option, Some, None, Ok, length, refl, ap, lit<, le-leb, lt-ltb, length-append, arith}
+use Rattle.std.proofs.Common.{◌≡◌, ℕ, ◌+◌, true, false, leb, ltb, List, [], ◌∷◌, ◌++◌, Option, Some, None, Result, Ok, Err, length, refl, sym, ap, ◌∙◌, append_assoc, lit<, le-leb, lt-ltb, length-append, arith}
 use Rattle.std.specs.List.{position_or_len}
 use Rattle.std.proofs.lemmas.List.Elements.{All-cons, All-append, All-head, All-tail}
 use Rattle.std.proofs.Math.Seq.{take-append_seam, drop-append-add}
 use Rattle.rules.specs.declared.order.Direction.{Direction}
 use Rattle.rules.specs.declared.order.Direction.TheVariants.{Buy, Sell}
-use Rattle.rules.specs.Terms as terms
+use Rattle.rules.specs.declared.terms.Terms.{Terms}
+use Rattle.tables.specs.Meaning.{Capacity}
+use Rattle.book.specs.Marks.{Session, begun}
+use Rattle.book.specs.Model.{result}
 use Rattle.book.specs.declared.call.Call.{Call}
 use Rattle.book.specs.declared.call.Call.TheVariants.{Enter, Alter, Withdraw, Advance}
 use Rattle.session_file.specs.Cut.{is, cut}
 use Rattle.session_file.specs.Grammar.{Number, Side, Price, Spaced, Line}
 use Rattle.session_file.specs.Reading.{number_of, call_of}
 use Rattle.session_file.specs.Lines.{Ahead, first_line, or_broken, ◌>>=◌, number_line, call_line, terms_section}
-use Rattle.session_file.specs.Worked.{Rules, moved}
-use Rattle.session_file.specs.Answered.{told, calls, opened, answered}
-use Rattle.session_file.specs.Files.{Stacked, CallLines, in_turn, text_of, AnsweredInTurn}
+use Rattle.session_file.specs.Answered.{told, outcome_of, session_after, closing, calls, opened, answered}
+use Rattle.session_file.specs.Files.{Stacked, CallLines, text_of, AnsweredInTurn}
+use Rattle.session_file.specs.Gathered.{said, after_all}
+use Rattle.session_file.specs.Opening.{terms_from}
 use Rattle.session_file.proofs.Numbers.{Free, number_free, number_taken}
 use Rattle.session_file.proofs.Forms.{letter_free}
 use Rattle.session_file.proofs.Calls.{call_taken}
@@ -73,10 +77,10 @@ line_read read x a line rest whole free got =
     let c : cut 10 a.text ≡ Some (line, rest) = rw whole (cut_at_mark line rest free) in
     rw c (rw got refl)
 
-number_read : (n : ℕ) (Next : List ℕ → Type 0) (a : Ahead) (s : Stacked (Number n) Next a.text) → number_line a ≡ Ok (n, behind a s.rest)
+pub number_read : (n : ℕ) (Next : List ℕ → Type 0) (a : Ahead) (s : Stacked (Number n) Next a.text) → number_line a ≡ Ok (n, behind a s.rest)
 number_read n Next a s = line_read number_of n a s.line s.rest s.whole (numbers_free n s.line s.first) (number_taken n s.line s.first)
 
-terms_read : (r b : ℕ) (Next : List ℕ → Type 0) (a : Ahead) (s : Stacked (Number 2) (Stacked (Number r) (Stacked (Number b) Next)) a.text) → terms_section a ≡ Ok (record { reference = r; block = b }, behind (behind (behind a s.rest) s.next.rest) s.next.next.rest)
+pub terms_read : (r b : ℕ) (Next : List ℕ → Type 0) (a : Ahead) (s : Stacked (Number 2) (Stacked (Number r) (Stacked (Number b) Next)) a.text) → terms_section a ≡ Ok (record { reference = r; block = b }, behind (behind (behind a s.rest) s.next.rest) s.next.next.rest)
 unfolding behind
 terms_read r b Next a s =
     let one = number_read 2 (Stacked (Number r) (Stacked (Number b) Next)) a s in
@@ -84,27 +88,29 @@ terms_read r b Next a s =
     let three = number_read b Next (behind (behind a s.rest) s.next.rest) s.next.next in
     rw one (rw two (rw three refl))
 
-module _ {Table Day : Type 0} (rules : Rules Table Day) (room : ℕ) where
-  calls_told : (cs : List Call) (day : Day) (a : Ahead) → CallLines cs a.text → calls rules room (length cs) day a ≡ in_turn rules room day cs
+module _ (t : Terms) (room : ℕ) where
+  calls_told : (cs : List Call) (s : Session) (a : Ahead) → CallLines cs a.text → calls t room (length cs) s a ≡ said t room s cs ++ closing t room (after_all t room s cs)
   unfolding behind
-  calls_told [] day a e = rw e refl
-  calls_told (c ∷ cs) day a s =
-      let got : call_line a ≡ Ok (c, behind a s.rest) =
-      line_read call_of c a s.line s.rest s.whole (line_free c s.line s.first) (call_taken c s.line s.first) in
-      let next : Day = moved day (rules.step day room c) in
-      rw got (ap (λ (l : List ℕ). told (rules.step day room c) ++ l) (calls_told cs next (behind a s.rest) s.next))
+  calls_told [] s a e = rw e refl
+  calls_told (c ∷ cs) s a h =
+      let got : call_line a ≡ Ok (c, behind a h.rest) =
+      line_read call_of c a h.line h.rest h.whole (line_free c h.line h.first) (call_taken c h.line h.first) in
+      let next : Session = session_after t room s c in
+      let mine : List ℕ = told (result (outcome_of t room s c)) in
+      rw got (ap (λ (l : List ℕ). mine ++ l) (calls_told cs next (behind a h.rest) h.next) ∙ sym (append_assoc mine (said t room next cs) (closing t room (after_all t room next cs))))
 
-  opened_told : (table : Table) (o : terms.Outcome) (cs : List Call) (a : Ahead) → Stacked (Number (length cs)) (CallLines cs) a.text → opened rules room table o a ≡ text_of rules room table o cs
+module _ (cap : Capacity) (room : ℕ) where
+  opened_told : (r : Result Terms ℕ) (cs : List Call) (a : Ahead) → Stacked (Number (length cs)) (CallLines cs) a.text → opened cap room r a ≡ text_of cap room r cs
   unfolding behind
-  opened_told table (terms.refused n) cs a s = refl
-  opened_told table (terms.made r b lo hi) cs a s =
-      let count = number_read (length cs) (CallLines cs) a s in
-      rw count (calls_told cs (rules.opening table r b) (behind a s.rest) s.next)
+  opened_told (Err n) cs a h = refl
+  opened_told (Ok t) cs a h =
+      let count = number_read (length cs) (CallLines cs) a h in
+      rw count (calls_told t room cs (begun cap) (behind a h.rest) h.next)
 
-  pub file_told : (table : Table) (file : List ℕ) → AnsweredInTurn rules room table file (answered rules room table file)
+  pub file_told : (file : List ℕ) → AnsweredInTurn cap room file (answered cap room file)
   unfolding behind
-  file_told table file r b cs short s =
+  file_told file r b cs short s =
       let fits : leb (length file) 65536 ≡ true = le-leb _ _ short in
       let start : Ahead = record { line = 1; text = file } in
       let section = terms_read r b (Stacked (Number (length cs)) (CallLines cs)) start s in
-      rw fits (rw section (opened_told table (terms.terms_of r b) cs (behind (behind (behind start s.rest) s.next.rest) s.next.next.rest) s.next.next.next))
+      rw fits (rw section (opened_told (terms_from r b) cs (behind (behind (behind start s.rest) s.next.rest) s.next.next.rest) s.next.next.next))

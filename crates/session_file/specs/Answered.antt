@@ -1,59 +1,63 @@
--- The text that a whole file is answered with: its lines are read and worked in turn.
+-- The text that a whole file is answered with: its lines are read and worked in turn, by the rules of the book.
 use Rattle.std.specs.Prelude.{ℕ, zero, suc, List, [], ◌∷◌, ◌++◌, Result, Ok, Err}
 use Rattle.std.specs.List.{flat_map}
-use Rattle.std.specs.Fmt.{decimal}
-use lib.Chars.{codes}
-use Rattle.rules.specs.Terms as terms
+use Rattle.rules.specs.declared.terms.Terms.{Terms}
+use Rattle.tables.specs.Meaning.{Capacity}
+use Rattle.book.specs.declared.call.Call.{Call}
 use Rattle.book.specs.declared.slip.Slip.{Slip}
+use Rattle.book.specs.Day.{Outcome}
+use Rattle.book.specs.Law.{Verdict, refused, accepted}
+use Rattle.book.specs.Leads.{outcome}
+use Rattle.book.specs.Marks.{Session, begun, worked, reference_left}
+use Rattle.book.specs.Model.{result}
 use Rattle.session_file.specs.declared.fault.Fault.{Fault}
-use Rattle.session_file.specs.Lines.{Ahead, begun, number_line, call_line, terms_section, ending}
-use Rattle.session_file.specs.Output.{spaced, answer_line, slip_line}
-use Rattle.session_file.specs.Worked.{Came, refused, done, Rules, moved}
+use Rattle.session_file.specs.Lines.{Ahead, first_ahead, number_line, call_line, terms_section, ending}
+use Rattle.session_file.specs.Opening.{terms_from}
+use Rattle.session_file.specs.Output.{answer_line, slip_line, refusal_line, fault_line, reference_line}
 
 -- a line and its byte 10
 abbrev pub ended : List ℕ → List ℕ
 ended line = line ++ 10 ∷ []
 
-abbrev pub refusal_text : ℕ → List ℕ
-refusal_text n = ended (spaced (codes "R" ∷ decimal n ∷ []))
-
-abbrev pub fault_text : Fault → List ℕ
-fault_text fault = ended (spaced (codes "X" ∷ decimal fault.line ∷ []))
-
-abbrev pub reference_text : ℕ → List ℕ
-reference_text price = ended (spaced (codes "F" ∷ decimal price ∷ []))
-
 abbrev pub slip_text : Slip → List ℕ
 slip_text slip = ended (slip_line slip)
 
--- a line for the call, and one for each of its slips
-abbrev pub told : {Day : Type 0} → Came Day → List ℕ
-told (refused n) = refusal_text n
-told (done after answer slips) = ended (answer_line answer) ++ flat_map slip_text slips
+-- a line for a call, and one for each of its slips
+abbrev pub told : Verdict → List ℕ
+told (refused n) = ended (refusal_line n)
+told (accepted answer slips) = ended (answer_line answer) ++ flat_map slip_text slips
 
 -- what follows from what was read; a broken form ends the text
 abbrev pub reading : {X : Type 0} → Result X Fault → (X → List ℕ) → List ℕ
 reading (Ok x) next = next x
-reading (Err fault) next = fault_text fault
+reading (Err fault) next = ended (fault_line fault.line)
 
-module _ {Table Day : Type 0} (rules : Rules Table Day) (room : ℕ) where
+module _ (t : Terms) (room : ℕ) where
+  -- what the rules make of a call, over a run of so many places
+  abbrev pub outcome_of : Session → Call → Outcome
+  outcome_of s call = outcome t s.day (record { call = call; room = room })
+
+  abbrev pub session_after : Session → Call → Session
+  session_after s call = worked t call s (outcome_of s call)
+
+  -- the last line of a session that was worked to its end
+  abbrev pub closing : Session → List ℕ
+  closing s = ended (reference_line (reference_left t s))
+
   -- so many calls, and then nothing more
-  abbrev pub calls : ℕ → Day → Ahead → List ℕ
-  calls zero day ahead = reading (ending ahead) (λ _. reference_text (rules.reference day))
-  calls (suc n) day ahead =
-      reading (call_line ahead) (λ c. told (rules.step day room c.0) ++ calls n (moved day (rules.step day room c.0)) c.1)
+  abbrev pub calls : ℕ → Session → Ahead → List ℕ
+  calls zero s ahead = reading (ending ahead) (λ _. closing s)
+  calls (suc n) s ahead =
+      reading (call_line ahead) (λ c. told (result (outcome_of s c.0)) ++ calls n (session_after s c.0) c.1)
 
-  -- the section of the calls
-  abbrev pub call_section : Day → Ahead → List ℕ
-  call_section day ahead = reading (number_line ahead) (λ count. calls count.0 day count.1)
+-- the section of the calls; refused terms end the text
+abbrev pub opened : Capacity → ℕ → Result Terms ℕ → Ahead → List ℕ
+opened cap room (Err n) ahead = ended (refusal_line n)
+opened cap room (Ok t) ahead = reading (number_line ahead) (λ count. calls t room count.0 (begun cap) count.1)
 
-  -- refused terms end the text
-  abbrev pub opened : Table → terms.Outcome → Ahead → List ℕ
-  opened table (terms.refused n) ahead = refusal_text n
-  opened table (terms.made reference block lo hi) ahead = call_section (rules.opening table reference block) ahead
+abbrev pub sections : Capacity → ℕ → Ahead → List ℕ
+sections cap room ahead = reading (terms_section ahead) (λ s. opened cap room (terms_from s.0.reference s.0.block) s.1)
 
-  abbrev pub sections : Table → Ahead → List ℕ
-  sections table ahead = reading (terms_section ahead) (λ t. opened table (terms.terms_of t.0.reference t.0.block) t.1)
-
-  abbrev pub answered : Table → List ℕ → List ℕ
-  answered table file = reading (begun file) (sections table)
+-- over a table that has room for so much, and a run of so many places
+abbrev pub answered : Capacity → ℕ → List ℕ → List ℕ
+answered cap room file = reading (first_ahead file) (sections cap room)

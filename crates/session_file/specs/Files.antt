@@ -1,11 +1,15 @@
 -- What a whole file says, in the words of the grammar of its lines; and the text that it is answered with, call after
 -- call.
-use Rattle.std.specs.Prelude.{◌≡◌, ℕ, List, [], ◌∷◌, ◌++◌, ◌≤◌, length}
-use Rattle.rules.specs.Terms as terms
+use Rattle.std.specs.Prelude.{◌≡◌, ℕ, List, [], ◌∷◌, ◌++◌, ◌≤◌, length, Result, Ok, Err}
+use Rattle.rules.specs.declared.terms.Terms.{Terms}
+use Rattle.tables.specs.Meaning.{Capacity}
 use Rattle.book.specs.declared.call.Call.{Call}
+use Rattle.book.specs.Marks.{begun}
 use Rattle.session_file.specs.Grammar.{Number, Line}
-use Rattle.session_file.specs.Worked.{Rules, moved}
-use Rattle.session_file.specs.Answered.{refusal_text, reference_text, told}
+use Rattle.session_file.specs.Answered.{ended, closing}
+use Rattle.session_file.specs.Gathered.{said, after_all}
+use Rattle.session_file.specs.Opening.{terms_from}
+use Rattle.session_file.specs.Output.{refusal_line}
 
 -- a line, its byte 10, and what follows
 pub record Stacked (First Next : List ℕ → Type 0) (text : List ℕ) : Type 0 where
@@ -28,18 +32,13 @@ abbrev pub File : ℕ → ℕ → List Call → List ℕ → Type 0
 File reference block calls =
     Number 2 above Number reference above Number block above Number (length calls) above CallLines calls
 
-module _ {Table Day : Type 0} (rules : Rules Table Day) (room : ℕ) where
-  abbrev pub in_turn : Day → List Call → List ℕ
-  in_turn day [] = reference_text (rules.reference day)
-  in_turn day (call ∷ calls) =
-      told (rules.step day room call) ++ in_turn (moved day (rules.step day room call)) calls
-
-  abbrev pub text_of : Table → terms.Outcome → List Call → List ℕ
-  text_of table (terms.refused n) calls = refusal_text n
-  text_of table (terms.made reference block lo hi) calls = in_turn (rules.opening table reference block) calls
+-- the text of these calls in turn; refused terms end it
+abbrev pub text_of : Capacity → ℕ → Result Terms ℕ → List Call → List ℕ
+text_of cap room (Err n) calls = ended (refusal_line n)
+text_of cap room (Ok t) calls = said t room (begun cap) calls ++ closing t room (after_all t room (begun cap) calls)
 
 -- a file that is not too long, and says terms and calls, is answered call after call
-abbrev pub AnsweredInTurn : {Table Day : Type 0} → Rules Table Day → ℕ → Table → List ℕ → List ℕ → Type 0
-AnsweredInTurn rules room table file text =
+abbrev pub AnsweredInTurn : Capacity → ℕ → List ℕ → List ℕ → Type 0
+AnsweredInTurn cap room file text =
     (reference block : ℕ) (calls : List Call) → length file ≤ 65536 → File reference block calls file →
-    text ≡ text_of rules room table (terms.terms_of reference block) calls
+    text ≡ text_of cap room (terms_from reference block) calls

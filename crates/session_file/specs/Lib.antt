@@ -4,7 +4,10 @@ pub mod Reading
 pub mod Laws
 pub mod Lines
 pub mod Output
-pub mod Worked
+pub mod Opening
 pub mod Answered
+pub mod Gathered
 pub mod Stops
 pub mod Files
+pub mod Broken
+pub mod Lawful

@@ -23,8 +23,8 @@ abbrev pub ◌>>=◌ : {X Y : Type 0} → Result X Fault → (X → Result Y Fau
 (Err e) >>= f = Err e
 
 -- a file that is too long is broken in line 0
-abbrev pub begun : List ℕ → Result Ahead Fault
-begun file = if nat_le (length file) 65536 then Ok (record { line = 1; text = file }) else Err (broken 0)
+abbrev pub first_ahead : List ℕ → Result Ahead Fault
+first_ahead file = if nat_le (length file) 65536 then Ok (record { line = 1; text = file }) else Err (broken 0)
 
 abbrev pub cut_line : ℕ → Option (List ℕ × List ℕ) → Result (List ℕ × Ahead) Fault
 cut_line line None = Err (broken line)

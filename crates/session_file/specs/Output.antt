@@ -8,20 +8,13 @@ use Rattle.book.specs.declared.answer.Answer.{Answer}
 use Rattle.book.specs.declared.answer.Answer.TheVariants.{Entered, Altered, Withdrawn, Advanced}
 use Rattle.book.specs.declared.slip.Slip.{Slip}
 use Rattle.book.specs.declared.slip.Slip.TheVariants.{Trade, Lapse}
-use Rattle.book.specs.declared.stage.Stage.{Stage}
-use Rattle.book.specs.declared.stage.Stage.TheVariants.{PreOpen, Open, PreClose, Closed}
+use Rattle.book.specs.Rules.{stage_number}
 use Rattle.session_file.specs.declared.output.OutputLine.{OutputLine}
 use Rattle.session_file.specs.declared.output.OutputLine.TheVariants.{Accepted, Slipped, Refused, Broken, NextReference}
 
 -- fields with one space (32) between
 abbrev pub spaced : List (List ℕ) → List ℕ
 spaced fields = join_with_byte 32 fields
-
-abbrev pub stage_number : Stage → ℕ
-stage_number PreOpen = 1
-stage_number Open = 2
-stage_number PreClose = 3
-stage_number Closed = 4
 
 abbrev pub price_or_dash : Option ℕ → List ℕ
 price_or_dash (Some price) = decimal price
@@ -39,9 +32,19 @@ abbrev pub slip_line : Slip → List ℕ
 slip_line (Trade buy sell price volume) = spaced (codes "T" ∷ decimal buy ∷ decimal sell ∷ decimal price ∷ decimal volume ∷ [])
 slip_line (Lapse n volume) = spaced (codes "L" ∷ decimal n ∷ decimal volume ∷ [])
 
+abbrev pub refusal_line : ℕ → List ℕ
+refusal_line n = spaced (codes "R" ∷ decimal n ∷ [])
+
+-- a broken form, by its line
+abbrev pub fault_line : ℕ → List ℕ
+fault_line n = spaced (codes "X" ∷ decimal n ∷ [])
+
+abbrev pub reference_line : ℕ → List ℕ
+reference_line price = spaced (codes "F" ∷ decimal price ∷ [])
+
 abbrev pub line : OutputLine → List ℕ
 line (Accepted answer) = answer_line answer
 line (Slipped slip) = slip_line slip
-line (Refused refusal) = spaced (codes "R" ∷ decimal (number refusal) ∷ [])
-line (Broken fault) = spaced (codes "X" ∷ decimal fault.line ∷ [])
-line (NextReference reference) = spaced (codes "F" ∷ decimal reference ∷ [])
+line (Refused refusal) = refusal_line (number refusal)
+line (Broken fault) = fault_line fault.line
+line (NextReference reference) = reference_line reference

@@ -1,23 +1,27 @@
 // The text that a whole file is answered with.
-ghost use Rattle.std.specs.Prelude.{◌≡◌, ◌++◌, IfOk, OnOk, length};
+ghost use Rattle.std.specs.Prelude.{◌≡◌, ◌++◌, IfOk, length};
 ghost use Rattle.std.specs.String.{string_bytes};
-ghost use Rattle.session_file.specs.Answered.{told, reference_text, calls, call_section, sections, answered};
+ghost use Rattle.book.specs.Marks.{begun};
+ghost use Rattle.session_file.specs.Answered.{calls as calls_text, answered};
+ghost use Rattle.session_file.specs.Broken.{BrokenInTurn};
 ghost use Rattle.session_file.specs.Files.{AnsweredInTurn};
-ghost use Rattle.session_file.specs.Stops.{Comes};
+ghost use Rattle.session_file.specs.Gathered.{Gathers, gathered};
+ghost use Rattle.session_file.specs.Lawful.{AnsweredLawfully};
 ghost use Rattle.session_file.specs.Lines.{ahead};
-ghost use Rattle.session_file.specs.Worked.{moved};
+ghost use Rattle.session_file.specs.Stops.{Comes};
 ghost use Rattle.session_file.specs.declared.answer.Stop.TheVariants.{Broken, Refused, OutOfMemory};
 
 use crate::fault::Fault;
 use crate::lines::Lines;
 use crate::output::OutputLine;
-use crate::put::{put_answer, put_line};
-use crate::session::Session;
+use crate::put::{put_journal, put_line};
 use book::call::Call;
 use book::slip::Slip;
+use market::journal::work_all;
 use rules::refusal::Refusal;
 use rules::terms::Terms;
-use std::alloc::{AllocError, Global};
+use std::alloc::{AllocError, AllocFailed, Global};
+use tables::table::Table;
 
 // Why a file is read no further.
 #[derive(Clone, Copy)]
@@ -51,82 +55,78 @@ impl From<AllocError> for Stop {
     }
 }
 
-fn answer_call<S: Session>(
-    session: &mut S,
-    call: Call,
-    run: &mut [Slip],
-    out: &mut String,
-) -> Result<(), AllocError>
-    ensures after { S.Session.day session.new ≡ moved (S.Session.day session.old) (S.Session.rules.step (S.Session.day session.old) (length run.old) call) }
-    ensures text { OnOk result (string_bytes out.new ≡ string_bytes out.old ++ told (S.Session.rules.step (S.Session.day session.old) (length run.old) call)) }
-{
-    match session.work(call, run) {
-        Ok(answer) => put_answer(out, answer, run),
-        Err(refusal) => put_line(out, OutputLine::from(refusal)),
+impl From<AllocFailed<Call>> for Stop {
+    ghost from_gives = { λ _ r. r ≡ OutOfMemory };
+
+    fn from(_x: AllocFailed<Call>) -> Stop {
+        Stop::OutOfMemory
     }
 }
 
-fn answer_calls<S: Session>(
-    mut lines: Lines,
-    count: u32,
-    session: &mut S,
-    run: &mut [Slip],
-    out: &mut String,
-) -> Result<(), Stop>
-    ensures { Comes result (λ _. reference_text (S.Session.rules.reference (S.Session.day session.new))) (string_bytes out.new) (string_bytes out.old ++ calls S.Session.rules (length run.old) count (S.Session.day session.old) (ahead lines.entry)) }
+// Reads so many calls, up to the first fault.
+fn read_calls(mut lines: Lines, count: u32, calls: &mut Vec<Call>) -> Result<(), Stop>
+    ensures { Gathers result calls.old.items calls.new.items (gathered count (ahead lines.entry)) }
 {
     for _ in 0..count {
         let (call, behind) = lines.next_call()?;
-        answer_call(session, call, run, out)?;
+        calls.push(call)?;
         lines = behind;
     }
     lines.end()?;
     Ok(())
 }
 
-fn answer_section<S: Session + Drop>(
+// Works the calls as one list. A fault among them is told after the calls before it.
+fn answer_calls<T: Table + Drop>(
+    heap: Global,
     lines: Lines,
-    mut session: S,
+    count: u32,
+    terms: Terms,
+    table: T,
     run: &mut [Slip],
     out: &mut String,
 ) -> Result<u32, Stop>
-    ensures { Comes result reference_text (string_bytes out.new) (string_bytes out.old ++ call_section S.Session.rules (length run.old) (S.Session.day session) (ahead lines.entry)) }
+    ensures { Comes result (string_bytes out.new) (string_bytes out.old ++ calls_text terms (length run.old) count (begun (T.Table.contents table).capacity) (ahead lines.entry)) }
 {
-    let (count, lines) = lines.next_number()?;
-    answer_calls(lines, count, &mut session, run, out)?;
-    Ok(session.end())
+    let mut calls = Vec::new(heap);
+    let read = read_calls(lines, count, &mut calls);
+    let (journal, session) = work_all(heap, terms, table, &calls, run)?;
+    put_journal(out, &journal)?;
+    let reference = session.end().next_reference();
+    read?;
+    Ok(reference)
 }
 
-fn answer_sections<S: Session + Drop>(
+fn answer_sections<T: Table + Drop>(
+    heap: Global,
     file: &[u8],
-    table: S::Table,
+    table: T,
     run: &mut [Slip],
     out: &mut String,
 ) -> Result<u32, Stop>
-where
-    S::Table: Drop,
-    ensures { Comes result reference_text (string_bytes out.new) (string_bytes out.old ++ answered S.Session.rules (length run.old) table file.now) }
+    ensures { Comes result (string_bytes out.new) (string_bytes out.old ++ answered (T.Table.contents table).capacity (length run.old) file.now) }
 {
     let lines = Lines::new(file)?;
     let (section, lines) = lines.next_terms()?;
     let terms = Terms::new(section.reference, section.block)?;
-    answer_section(lines, S::start(table, terms), run, out)
+    let (count, lines) = lines.next_number()?;
+    answer_calls(heap, lines, count, terms, table, run, out)
 }
 
-// The text that a file is answered with, worked on a session that is started from a table.
-pub fn answer_file<S: Session + Drop>(
-    alloc: Global,
+// The text that a file is answered with, over a table. The run is room to work in.
+pub fn answer_file<T: Table + Drop>(
+    heap: Global,
     file: &[u8],
-    table: S::Table,
+    table: T,
     run: &mut [Slip],
 ) -> Result<String, AllocError>
-where
-    S::Table: Drop,
-    ensures in_turn { IfOk result (λ text. AnsweredInTurn S.Session.rules (length run.old) table file.now (string_bytes text)) }
-    ensures exact { IfOk result (λ text. string_bytes text ≡ answered S.Session.rules (length run.old) table file.now) }
+    ensures in_turn { IfOk result (λ text. AnsweredInTurn (T.Table.contents table).capacity (length run.old) file.now (string_bytes text)) }
+    ensures lawful { IfOk result (λ text. AnsweredLawfully (T.Table.contents table).capacity (length run.old) file.now (string_bytes text)) }
+    ensures broken { IfOk result (λ text. BrokenInTurn (T.Table.contents table).capacity (length run.old) file.now (string_bytes text)) }
+    ensures exact { IfOk result (λ text. string_bytes text ≡ answered (T.Table.contents table).capacity (length run.old) file.now) }
 {
-    let mut out = String::new(alloc);
-    let last = match answer_sections::<S>(file, table, run, &mut out) {
+    let mut out = String::new(heap);
+    let last = match answer_sections(heap, file, table, run, &mut out) {
         Ok(reference) => OutputLine::NextReference(reference),
         Err(Stop::Broken(fault)) => OutputLine::from(fault),
         Err(Stop::Refused(refusal)) => OutputLine::from(refusal),

@@ -1,5 +1,6 @@
 // Where a file breaks its form.
 ghost use Rattle.std.specs.Prelude.{◌≡◌};
+ghost use Rattle.rules.specs.Refusal.{number};
 ghost use Rattle.session_file.specs.Lines.{broken};
 
 use rules::refusal::Refusal;
@@ -13,7 +14,8 @@ pub struct Fault {
 
 impl Fault {
     pub fn in_line(line: u32) -> Fault
-        ensures { result ≡ broken line }
+        ensures value { result ≡ broken line }
+        ensures refusal { number result.refusal ≡ 13 }
     {
         Fault {
             refusal: Refusal::BrokenForm,

@@ -62,7 +62,7 @@ pub fn side(field: &[u8]) -> Option<Direction>
     }
 }
 
-// A market order's price has no limit.
+// The limit price; none for the M of a market order.
 pub fn limit(field: &[u8]) -> Option<Option<u32>>
     ensures { result ≡ limit_of field.now }
 {

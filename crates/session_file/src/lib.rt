@@ -10,7 +10,6 @@ pub mod number;
 pub mod output;
 pub mod put;
 pub mod reader;
-pub mod session;
 #[cfg(test)]
 mod tests;
 pub mod theorems;

@@ -7,7 +7,8 @@ use crate::number::number;
 use crate::reader::read_call;
 use book::call::Call;
 
-const LONGEST: usize = 65_536;
+// The most bytes of a file.
+pub const LONGEST: usize = 65_536;
 
 // What is left of a file, and the number of the first line of it.
 #[derive(Clone, Copy)]
@@ -25,10 +26,10 @@ pub struct TermsSection {
 }
 
 impl<'a> Lines<'a> {
-    ghost use Rattle.session_file.specs.Lines.{ahead, opened, cut_off, found, begun, first_line, number_line, call_line, terms_section, ending};
+    ghost use Rattle.session_file.specs.Lines.{ahead, opened, cut_off, found, first_ahead, first_line, number_line, call_line, terms_section, ending};
 
     pub fn new(file: &'a [u8]) -> Result<Lines<'a>, Fault>
-        ensures { opened result ≡ begun file.now }
+        ensures { opened result ≡ first_ahead file.now }
     {
         if file.len() > LONGEST {
             return Err(Fault::in_line(0));

@@ -1,13 +1,12 @@
 // The lines that a session file is answered with.
 ghost use Rattle.std.specs.Prelude.{◌≡◌, Some};
-ghost use Rattle.session_file.specs.Output.{stage_number, answer_line, line};
+ghost use Rattle.session_file.specs.Output.{answer_line, line};
 ghost use Rattle.std.specs.Fmt.{WritesOnOk};
 ghost use Rattle.session_file.specs.declared.output.OutputLine.TheVariants.{Accepted, Slipped, Refused, Broken, NextReference};
 
 use crate::fault::Fault;
 use book::answer::Answer;
 use book::slip::Slip;
-use book::stage::Stage;
 use rules::refusal::Refusal;
 use std::fmt;
 
@@ -53,18 +52,6 @@ impl From<Fault> for OutputLine {
     }
 }
 
-// The number that stands for a state.
-pub fn stage_number(stage: Stage) -> u32
-    ensures { result ≡ stage_number stage }
-{
-    match stage {
-        Stage::PreOpen => 1,
-        Stage::Open => 2,
-        Stage::PreClose => 3,
-        Stage::Closed => 4,
-    }
-}
-
 fn write_answer<W: fmt::Write>(f: &mut fmt::Formatter<W>, answer: Answer) -> fmt::Result
     ensures { WritesOnOk W.write_str_gives f.old result (answer_line answer) f.new }
 {
@@ -83,7 +70,7 @@ fn write_answer<W: fmt::Write>(f: &mut fmt::Formatter<W>, answer: Answer) -> fmt
             traded,
             ..
         } => {
-            let stage = stage_number(stage);
+            let stage = stage.number();
             write!(f, "N {stage} {price} {traded}")
         }
         Answer::Advanced {
@@ -92,7 +79,7 @@ fn write_answer<W: fmt::Write>(f: &mut fmt::Formatter<W>, answer: Answer) -> fmt
             traded,
             ..
         } => {
-            let stage = stage_number(stage);
+            let stage = stage.number();
             write!(f, "N {stage} - {traded}")
         }
     }

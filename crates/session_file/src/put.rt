@@ -1,14 +1,17 @@
 // Lines put at the end of the output. Where memory is wanting, a part of a line may stand there.
-ghost use Rattle.std.specs.Prelude.{◌≡◌, ◌++◌, ◌≤◌, length, take, OnOk};
+ghost use Rattle.std.specs.Prelude.{◌≡◌, ◌++◌, OnOk};
 ghost use Rattle.std.specs.List.{flat_map};
 ghost use Rattle.std.specs.String.{string_bytes};
-ghost use Rattle.session_file.specs.Output.{line as line_of, answer_line};
-ghost use Rattle.session_file.specs.Answered.{ended, slip_text};
-ghost use Rattle.session_file.specs.Worked.{slip_count};
+ghost use Rattle.session_file.specs.Output.{line as line_of};
+ghost use Rattle.market.specs.Journaled.{verdict_of};
+ghost use Rattle.session_file.specs.Answered.{ended, slip_text, told};
+ghost use Rattle.session_file.specs.Gathered.{entry_text};
 
 use crate::output::OutputLine;
 use book::answer::Answer;
 use book::slip::Slip;
+use market::journal::Entry;
+use rules::refusal::Refusal;
 use std::alloc::AllocError;
 
 pub fn put_line(out: &mut String, line: OutputLine) -> Result<(), AllocError>
@@ -17,7 +20,7 @@ pub fn put_line(out: &mut String, line: OutputLine) -> Result<(), AllocError>
     writeln!(out, "{line}").map_err(|_| AllocError)
 }
 
-pub fn put_slips(out: &mut String, slips: &[Slip]) -> Result<(), AllocError>
+fn put_slips(out: &mut String, slips: &[Slip]) -> Result<(), AllocError>
     ensures { OnOk result (string_bytes out.new ≡ string_bytes out.old ++ flat_map slip_text slips.now) }
 {
     for slip in slips {
@@ -26,22 +29,29 @@ pub fn put_slips(out: &mut String, slips: &[Slip]) -> Result<(), AllocError>
     Ok(())
 }
 
-fn slip_count(answer: Answer) -> usize
-    ensures { result ≡ slip_count answer }
+// What a call came to: its answer and its slips, or its refusal.
+pub fn put_call(
+    out: &mut String,
+    answer: &Result<Answer, Refusal>,
+    slips: &[Slip],
+) -> Result<(), AllocError>
+    ensures { OnOk result (string_bytes out.new ≡ string_bytes out.old ++ told (verdict_of answer.now slips.now)) }
 {
     match answer {
-        Answer::Entered { slips, .. }
-        | Answer::Altered { slips, .. }
-        | Answer::Withdrawn { slips, .. }
-        | Answer::Advanced { slips, .. } => slips,
+        Ok(answer) => {
+            put_line(out, OutputLine::from(*answer))?;
+            put_slips(out, slips)
+        }
+        Err(refusal) => put_line(out, OutputLine::from(*refusal)),
     }
 }
 
-// The answer, and as many slips of the run as it says; a run that is shorter is put whole.
-pub fn put_answer(out: &mut String, answer: Answer, run: &[Slip]) -> Result<(), AllocError>
-    ensures { OnOk result (string_bytes out.new ≡ string_bytes out.old ++ (ended (answer_line answer) ++ flat_map slip_text (take (slip_count answer) run.now))) }
+// Each call that was worked, and its slips.
+pub fn put_journal(out: &mut String, journal: &[Entry]) -> Result<(), AllocError>
+    ensures { OnOk result (string_bytes out.new ≡ string_bytes out.old ++ flat_map entry_text journal.now) }
 {
-    put_line(out, OutputLine::from(answer))?;
-    let count = run.len().min(slip_count(answer));
-    put_slips(out, &run[..count])
+    for entry in journal {
+        put_call(out, &entry.answer, &entry.slips)?;
+    }
+    Ok(())
 }

@@ -1,51 +1,16 @@
-ghost use Rattle.std.specs.Prelude.{◌≡◌, ℕ};
-ghost use Rattle.session_file.specs.Worked.{Rules, refused};
-
 use crate::answer::answer_file;
 use crate::fault::Fault;
 use crate::lines::Lines;
 use crate::number::number;
 use crate::output::OutputLine;
 use crate::reader::read_call;
-use crate::session::Session;
 use book::answer::Answer;
 use book::call::Call;
 use book::slip::Slip;
 use book::stage::Stage;
-use rules::order::Direction;
-use rules::refusal::Refusal;
-use rules::terms::Terms;
+use rules::order::{Direction, Order};
 use std::test::Fail;
-
-// A session that refuses every call, and keeps its reference price.
-#[derive(Drop)]
-struct Refusing {
-    reference: u32,
-}
-
-impl Session for Refusing {
-    type Table = ();
-
-    ghost Day = { ℕ };
-
-    ghost day = { λ s. s.reference };
-
-    ghost rules = { record { opening = λ table reference block. reference; step = λ day room call. refused 3; reference = λ day. day } };
-
-    fn start(_table: (), terms: Terms) -> Refusing {
-        Refusing {
-            reference: terms.reference(),
-        }
-    }
-
-    fn work(&mut self, _call: Call, _run: &mut [Slip]) -> Result<Answer, Refusal> {
-        Err(Refusal::Closed)
-    }
-
-    fn end(self) -> u32 {
-        self.reference
-    }
-}
+use tables::queue::Queue;
 
 #[test]
 fn numbers(rt: HostRuntime) {
@@ -142,13 +107,28 @@ fn lines(rt: HostRuntime) -> Result<(), Fail> {
 #[test]
 fn files(rt: HostRuntime) -> Result<(), Fail> {
     let alloc = rt.alloc();
-    let refused = answer_file::<Refusing>(alloc, b"2\n1000\n10\n1\nN\n", (), &mut [])?;
-    assert_eq!(rt; refused.as_str(), "R 3\nF 1000\n");
-    let terms = answer_file::<Refusing>(alloc, b"2\n0\n10\n", (), &mut [])?;
+    let mut run = [Slip::Lapse {
+        number: 0,
+        volume: 0,
+    }; 4];
+    let mut places = [Order::limit(0, 0, Direction::Buy, 0, 0); 4];
+    let worked = answer_file(
+        alloc,
+        b"2\n1000\n10\n1\nN\n",
+        Queue::new(&mut places),
+        &mut run,
+    )?;
+    assert_eq!(rt; worked.as_str(), "N 2 - 0\nF 1000\n");
+    let terms = answer_file(alloc, b"2\n0\n10\n", Queue::new(&mut places), &mut run)?;
     assert_eq!(rt; terms.as_str(), "R 1\n");
-    let missing = answer_file::<Refusing>(alloc, b"2\n1000\n10\n2\nN\n", (), &mut [])?;
-    assert_eq!(rt; missing.as_str(), "R 3\nX 6\n");
-    let empty = answer_file::<Refusing>(alloc, b"", (), &mut [])?;
+    let missing = answer_file(
+        alloc,
+        b"2\n1000\n10\n2\nN\n",
+        Queue::new(&mut places),
+        &mut run,
+    )?;
+    assert_eq!(rt; missing.as_str(), "N 2 - 0\nX 6\n");
+    let empty = answer_file(alloc, b"", Queue::new(&mut places), &mut run)?;
     assert_eq!(rt; empty.as_str(), "X 1\n");
     Ok(())
 }

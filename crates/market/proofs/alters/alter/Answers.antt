@@ -25,4 +25,4 @@ change-requires-clause-found g c =
 pub returns : goal.returns
 returns g c =
     let t = g.T.Table.contents c.args.table.now in
-    alter_done c.args.terms.now c.args.stage c.args.tally.now t c.args.wanted c.args.run.now (g.met.T.Table.sound c.args.table.now) c.in_ok-order.order (sym c.in_ok-order.ensures) c.in_ok-fill.fill c.change.new.tally (g.T.Table.contents c.change.new.table) c.change.new.run c.in_ok-fill.ensures.whole
+    alter_done c.args.terms.now c.args.stage c.args.tally.now t c.args.wanted c.args.run.now (g.met.T.Table.sound c.args.table.now) c.in_ok-order.order (sym c.in_ok-order.ensures) c.in_ok-fill.fill c.change.new.tally (g.T.Table.contents c.change.new.table) c.change.new.run c.in_ok-fill.ensures

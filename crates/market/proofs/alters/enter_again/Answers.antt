@@ -1,4 +1,4 @@
-use Rattle.std.proofs.Common.{◌≡◌, ◌+◌, ◌<◌, ◌≤◌, true, List, length, sym, ap, subst, ◌∙◌}
+use Rattle.std.proofs.Common.{◌≡◌, ◌<◌, true, List, length, sym, ap, subst, ◌∙◌}
 use Rattle.rules.specs.Side.{opposite}
 use Rattle.rules.specs.declared.order.Order.{Order}
 use Rattle.tables.specs.Listing.{without}
@@ -31,29 +31,18 @@ arrive-requires-clause-long g c =
     let same = ap (listed (opposite e.direction)) after ∙ listed_own e.direction (without e.number (listed e.direction t)) t in
     subst (λ (xs : List Order). length xs < length c.args.run.now) (sym same) (c.requires.long c.if-trades.true)
 
-pub returns-then-trades-clause-whole : goal.returns-then-trades-clause-whole
-returns-then-trades-clause-whole g c =
+pub returns-then-trades : goal.returns-then-trades
+returns-then-trades g c =
     let e = c.args.order in
     let t = g.T.Table.contents c.args.table.now in
     let s = g.met.T.Table.sound c.args.table.now in
     let o = c.requires.stands.0 in
     let h : Held e.number t o = looked_up e.number t s o c.requires.stands.1 in
     let after = c.remove.ensures.after ∙ gone t s o e h.number c.requires.stands.2 h.rank h.there in
-    ap as_placed (c.arrive.ensures.whole ∙ ap (λ z. arrived e z c.args.run.now) after) ∙ ap (λ b. as_placed (again b e t c.args.run.now)) (sym c.if-trades.true)
+    ap as_placed (c.arrive.ensures ∙ ap (λ z. arrived e z c.args.run.now) after) ∙ ap (λ b. as_placed (again b e t c.args.run.now)) (sym c.if-trades.true)
 
-pub returns-then-trades-clause-few : goal.returns-then-trades-clause-few
-returns-then-trades-clause-few g c =
-    let e = c.args.order in
-    let t = g.T.Table.contents c.args.table.now in
-    let s = g.met.T.Table.sound c.args.table.now in
-    let o = c.requires.stands.0 in
-    let h : Held e.number t o = looked_up e.number t s o c.requires.stands.1 in
-    let after = c.remove.ensures.after ∙ gone t s o e h.number c.requires.stands.2 h.rank h.there in
-    let same = ap (listed (opposite e.direction)) after ∙ listed_own e.direction (without e.number (listed e.direction t)) t in
-    subst (λ (xs : List Order). c.arrive.result.written ≤ length xs + 1) same c.arrive.ensures.few
-
-pub returns-else-trades-clause-whole : goal.returns-else-trades-clause-whole
-returns-else-trades-clause-whole g c =
+pub returns-else-trades : goal.returns-else-trades
+returns-else-trades g c =
     let e = c.args.order in
     let t = g.T.Table.contents c.args.table.now in
     let s = g.met.T.Table.sound c.args.table.now in

@@ -41,7 +41,7 @@ returns-in_err-fill g c =
     let first : entry_rows c.args.terms.now c.args.stage c.args.entry.member c.args.entry.limit c.args.entry.volume ≡ None = sym c.in_ok-check_entry.ensures in
     let second : arrivals_row c.args.tally.now ≡ None = sym c.in_ok-check_arrivals.ensures in
     let whole : placed (Err n) (g.T.Table.contents c.place.new.table) c.place.new.run ≡ places_of c.args.stage (entering c.args.terms.now (c.args.tally.now + 1) c.args.entry.member c.args.entry.direction c.args.entry.limit c.args.entry.volume) t c.args.run.now =
-    c.in_err-fill.ensures.whole ∙ ap (λ o. places_of c.args.stage o t c.args.run.now) c.order_of-order.ensures in
+    c.in_err-fill.ensures ∙ ap (λ o. places_of c.args.stage o t c.args.run.now) c.order_of-order.ensures in
     ap (λ x. acted x c.args.tally.now (g.T.Table.contents c.place.new.table) c.place.new.run) e
     ∙ enter_refused c.args.terms.now c.args.stage c.args.tally.now t c.args.entry.member c.args.entry.direction c.args.entry.limit c.args.entry.volume c.args.run.now first second (g.T.Table.contents c.place.new.table) c.place.new.run n whole
 
@@ -53,6 +53,6 @@ returns g c =
     let second : arrivals_row c.args.tally.now ≡ None = sym c.in_ok-check_arrivals.ensures in
     let o = entering c.args.terms.now (c.args.tally.now + 1) c.args.entry.member c.args.entry.direction c.args.entry.limit c.args.entry.volume in
     let whole : placed (Ok f) (g.T.Table.contents c.place.new.table) c.place.new.run ≡ places_of c.args.stage o t c.args.run.now =
-    c.in_ok-fill.ensures.whole ∙ ap (λ o. places_of c.args.stage o t c.args.run.now) c.order_of-order.ensures in
+    c.in_ok-fill.ensures ∙ ap (λ o. places_of c.args.stage o t c.args.run.now) c.order_of-order.ensures in
     ap (λ o. acted (Ok (Entered o.number f.traded f.held f.written)) o.number (g.T.Table.contents c.place.new.table) c.place.new.run) c.order_of-order.ensures
     ∙ enter_done c.args.terms.now c.args.stage c.args.tally.now t c.args.entry.member c.args.entry.direction c.args.entry.limit c.args.entry.volume c.args.run.now first second (g.T.Table.contents c.place.new.table) c.place.new.run f whole

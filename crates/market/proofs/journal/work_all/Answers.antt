@@ -1,16 +1,15 @@
-use Rattle.std.proofs.Common.{[], length, refl, sym, subst, ◌∙◌, arith}
+use Rattle.std.proofs.Common.{◌≡◌, [], length, refl, sym, subst, arith}
 use Rattle.std.proofs.lemmas.List.{take_all}
-use Rattle.market.specs.Journaled.{Journaled}
-use Rattle.market.specs.Works.{seen}
-use Rattle.market.proofs.Journals.{begins, goes_one}
+use Rattle.market.specs.Journaled.{run_through}
+use Rattle.market.proofs.Journals.{Gone, begins, goes_one, all_gone, through_one}
 use Rattle.market.proofs.journal.work_all.Goals as goal
 
 pub loop-call-init : goal.loop-call-init
 loop-call-init g c = (
-  subst (λ es. Journaled c.args.terms (g.T.Table.contents c.args.table).capacity [] (length c.args.run.now) es (seen c.start-session.result.terms c.start-session.result.state (g.T.Table.contents c.start-session.result.table)))
+  subst (λ es. Gone c.args.terms (g.T.Table.contents c.args.table).capacity [] (length c.args.run.now) es c.start-session.result)
       (sym c.in_ok-journal.ensures.items)
       (begins c.args.terms (g.T.Table.contents c.args.table).capacity (length c.args.run.now) _ c.start-session.ensures),
-  refl,
+  subst (λ es. c.args.run.now ≡ run_through c.args.run.now es) (sym c.in_ok-journal.ensures.items) refl,
   c.in_ok-journal.ensures.len,
   c.in_ok-journal.ensures.capacity,
 )
@@ -24,14 +23,15 @@ pub loop-call-preserved : goal.loop-call-preserved
 loop-call-preserved g c =
     let i = c.loop-call.invariant in
     let calls = c.args.calls.now in (
-      goes_one c.args.terms (g.T.Table.contents c.args.table).capacity calls c.loop-call.call-index (length c.args.run.now) c.loop-call.journal.items c.push_reserved.new.self.items _ _ _ c.in_ok-entry.entry _ c.loop-call-test.true i.1 i.0 c.in_ok-entry.ensures.entered c.push_reserved.ensures.items,
-      c.in_ok-entry.ensures.room ∙ i.1,
+      goes_one c.args.terms (g.T.Table.contents c.args.table).capacity calls c.loop-call.call-index (length c.args.run.now) c.loop-call.journal.items c.push_reserved.new.self.items _ _ _ c.in_ok-entry.entry _ c.loop-call-test.true c.loop-call.auto.run i.0 c.in_ok-entry.ensures.follows c.push_reserved.ensures.items,
+      through_one c.loop-call.journal.items c.push_reserved.new.self.items c.args.run.now _ _ c.in_ok-entry.entry i.1 c.in_ok-entry.ensures.run c.push_reserved.ensures.items,
       omega (arith, c.push_reserved.ensures.len, i.2),
       omega (arith, c.push_reserved.ensures.capacity, i.3),
     )
 
-pub returns : goal.returns
-returns g c =
+pub returns-clause-journal : goal.returns-clause-journal
+returns-clause-journal g c =
     let i = c.loop-call.invariant in
-    subst (λ cs. Journaled c.args.terms (g.T.Table.contents c.args.table).capacity cs (length c.args.run.now) c.loop-call.journal.items (seen c.loop-call.session.terms c.loop-call.session.state (g.T.Table.contents c.loop-call.session.table)))
-    (take_all c.loop-call.call-index c.args.calls.now c.loop-call-test.false) i.0
+    all_gone c.args.terms (g.T.Table.contents c.args.table).capacity c.args.calls.now (length c.args.run.now) c.loop-call.journal.items c.loop-call.session
+    (subst (λ cs. Gone c.args.terms (g.T.Table.contents c.args.table).capacity cs (length c.args.run.now) c.loop-call.journal.items c.loop-call.session)
+    (take_all c.loop-call.call-index c.args.calls.now c.loop-call-test.false) i.0)
