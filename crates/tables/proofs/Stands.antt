@@ -52,13 +52,13 @@ module _ (t : Contents) (s : Sound (ordered t)) where
   placed n p at = (same_held n ∙ held_on t.book n p.direction p.index at, at)
 
   pub placed_on : (n : ℕ) → times n t.book.buys ≡ 0 → (r : Option Place) → PlacedOn Sell n t r → Placed n t r
-  placed_on n none (Some p) at = placed n p at
+  placed_on n none (Some p) at = placed n p at.1
   placed_on n none None e = same_held n ∙ held_none t.book n (omega arith)
 
   -- on the first side, or else on the second
   pub placed_either : (n : ℕ) (first r : Option Place) → PlacedOn Buy n t first → (first ≡ None → PlacedOn Sell n t r) → ((p : Place) → first ≡ Some p → r ≡ Some p) → Placed n t r
   placed_either n None r a second same = placed_on n a r (second refl)
-  placed_either n (Some p) r a second same = rw (same p refl) (placed n p a)
+  placed_either n (Some p) r a second same = rw (same p refl) (placed n p a.1)
 
   pub found : (n : ℕ) (d : Direction) (i : ℕ) → Stands n (listed d t) i → Some (get_or (listed d t) i no_order) ≡ lookup n (ordered t).book
   found n d i at = lookup_at t.book n (once n) d i at ∙ sym (same_lookup n)

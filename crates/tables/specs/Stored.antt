@@ -24,7 +24,7 @@ Located n os (Some i) = Stands n os i
 -- where the order with the number n stands on side d, none where it does not
 abbrev pub PlacedOn : Direction → ℕ → Contents → Option Place → Type 0
 PlacedOn d n t None = times n (listed d t) ≡ 0
-PlacedOn d n t (Some p) = Stands n (listed p.direction t) p.index
+PlacedOn d n t (Some p) = (p.direction ≡ d) × Stands n (listed p.direction t) p.index
 
 -- where the order with the number n stands, none where it is not held
 abbrev pub Placed : ℕ → Contents → Option Place → Type 0
