@@ -14,8 +14,8 @@ use Rattle.tables.specs.Meaning.{Contents, Sound, listed, lookup, book_of, held,
 use Rattle.tables.proofs.Keeps.{held_none}
 use Rattle.tables.proofs.Numbers.{without_at, set_volume_at, times_at}
 use Rattle.tables.proofs.Ranking.{ranking, Ranking}
-use Rattle.market.specs.Fills.{on_side}
-use Rattle.market.specs.Altered.{left_by}
+use Rattle.market.specs.Fills.{with_listed}
+use Rattle.market.specs.Altered.{without_order}
 use Rattle.market.proofs.Taking.{get_is, listed_side, is_held, removed_listed, set_listed, stands, few}
 use Rattle.market.proofs.Lapsing.{remove_length}
 
@@ -71,15 +71,15 @@ module _ (c : Contents) (s : Sound c) (o : Order) (e : Order) (number : o.number
   pub is_there : held e.number c.book ≡ true
   is_there = subst (λ n. held n c.book ≡ true) number (is_held c s e.direction i o at_side)
 
-  pub gone : removed e.number c ≡ left_by e c
-  gone = subst (λ n. removed n c ≡ on_side e.direction (without n (listed e.direction c)) c) number (removed_listed c s e.direction i o at_side)
+  pub gone : removed e.number c ≡ without_order e c
+  gone = subst (λ n. removed n c ≡ with_listed e.direction (without n (listed e.direction c)) c) number (removed_listed c s e.direction i o at_side)
 
   shorter : length (without e.number (listed e.direction c)) + 1 ≡ length (listed e.direction c)
   shorter =
       let w = without_at o.number (listed e.direction c) i (stands c s e.direction i o at_side) (few c s e.direction i o at_side) in
       omega (arith, ap length (w ∙ ap (λ n. without n (listed e.direction c)) number), remove_length i (listed e.direction c) o at_side)
 
-  pub takes_again : takes (left_by e c) e ≡ true
+  pub takes_again : takes (without_order e c) e ≡ true
   takes_again = go e.direction shorter (s.fits e.direction) (one e.direction at_side)
     where
       alone : (d : Direction) → slice_get (listed d c) i ≡ Some o → times o.number (listed (opposite d) c) ≡ 0
@@ -90,7 +90,7 @@ module _ (c : Contents) (s : Sound c) (o : Order) (e : Order) (number : o.number
       one d h = subst (λ n. times n (listed (opposite d) c) ≡ 0) number (alone d h)
 
       go : (d : Direction) → length (without e.number (listed d c)) + 1 ≡ length (listed d c) → length (listed d c) ≤ c.capacity.places → times e.number (listed (opposite d) c) ≡ 0 →
-          (nat_lt (length (listed d (on_side d (without e.number (listed d c)) c))) c.capacity.places && not (held e.number (on_side d (without e.number (listed d c)) c).book)) ≡ true
+          (nat_lt (length (listed d (with_listed d (without e.number (listed d c)) c))) c.capacity.places && not (held e.number (with_listed d (without e.number (listed d c)) c).book)) ≡ true
       go Buy a b z =
           let xs = without e.number c.book.buys in
           and_from _ _ (lt-ltb (length xs) c.capacity.places (omega arith)) (not_from_false _ (held_none (book_of xs c.book.sells) e.number (omega (arith, without_none e.number c.book.buys))))
@@ -123,7 +123,7 @@ module _ (d : Direction) (v : ℕ) where
       let no : before d o x ≡ false = r.one_way x o (behind x o xs i p.0 h) in
       cond-false _ _ _ no ∙ ap (λ ys. x ∷ ys) (put_back o xs i p.1 h)
 
-pub kept_in_place : (c : Contents) → Sound c → (o : Order) (v : ℕ) (i : ℕ) → slice_get (listed o.direction c) i ≡ Some o → (v ≡ 0 → ⊥) → volume_set o.number v c ≡ put_in (with_volume v o) (left_by o c)
+pub kept_in_place : (c : Contents) → Sound c → (o : Order) (v : ℕ) (i : ℕ) → slice_get (listed o.direction c) i ≡ Some o → (v ≡ 0 → ⊥) → volume_set o.number v c ≡ put_in (with_volume v o) (without_order o c)
 kept_in_place c s o v i h p =
     let d = o.direction in
     let xs = listed d c in
@@ -131,9 +131,9 @@ kept_in_place c s o v i h p =
     let w = without_at o.number xs i (stands c s d i o h) (few c s d i o h) in
     let sv = set_volume_at o.number v xs i o (stands c s d i o h) (few c s d i o h) in
     set_listed c s d i o h v p
-    ∙ ap (λ ys. on_side d ys c) (sym (ap (λ z. set xs i (with_volume v z)) (sym (get_is xs i o o h)) ∙ sv) ∙ sym back ∙ ap (insert (before d) (with_volume v o)) w)
+    ∙ ap (λ ys. with_listed d ys c) (sym (ap (λ z. set xs i (with_volume v z)) (sym (get_is xs i o o h)) ∙ sv) ∙ sym back ∙ ap (insert (before d) (with_volume v o)) w)
     ∙ put_is d
   where
-    put_is : (d : Direction) → on_side d (insert (before d) (with_volume v o) (without o.number (listed d c))) c ≡ on_side d (insert (before d) (with_volume v o) (listed d (on_side d (without o.number (listed d c)) c))) (on_side d (without o.number (listed d c)) c)
+    put_is : (d : Direction) → with_listed d (insert (before d) (with_volume v o) (without o.number (listed d c))) c ≡ with_listed d (insert (before d) (with_volume v o) (listed d (with_listed d (without o.number (listed d c)) c))) (with_listed d (without o.number (listed d c)) c)
     put_is Buy = refl
     put_is Sell = refl

@@ -18,7 +18,7 @@ use Rattle.book.specs.Day.{Swept, sweep, placed as stood, dealt, done, arrive, q
 use Rattle.book.specs.Day as day_words
 use Rattle.market.specs.declared.alters.Wanted.{Wanted}
 use Rattle.market.specs.declared.entries.Fill.{Fill}
-use Rattle.market.specs.Altered.{left_by, again, Changed, changed, changes}
+use Rattle.market.specs.Altered.{without_order, again, Changed, changed, changes}
 use Rattle.market.specs.Outcome.{day_at, Acted, acted, acted_as, acts}
 use Rattle.market.specs.Rows.{closed_row, entry_rows, arrivals_row, run_row, by_row, alter_rows, named, owned, altering, withdrawing, placed}
 use Rattle.market.proofs.Altering.{Held, looked_up, gone}
@@ -71,7 +71,7 @@ module _ (tally tally' : ℕ) (c : Contents) (run : List Slip) (stage : Stage) (
   d = e.direction
 
   abbrev c1 : Contents
-  c1 = left_by e c
+  c1 = without_order e c
 
   across : listed (opposite d) c1 ≡ listed (opposite d) c
   across = listed_own d (without e.number (listed d c)) c
@@ -116,7 +116,7 @@ module _ (t : Terms) (stage : Stage) (tally : ℕ) (c : Contents) (w : Wanted) (
       let known = alterable t stage tally c w (length run) o h in
       let room : trades ≡ true → length (listed (opposite d) c) < length run = λ q. long_enough stage (length run) d c known.long (and_parts (is_open stage) (not (w.price == o.price)) q).0 in
       let at : Held w.number c o = looked_up w.number c s o known.found in
-      let g : left_by e c ≡ removed o.number c = sym (gone c s o e refl refl at.rank at.there) in
+      let g : without_order e c ≡ removed o.number c = sym (gone c s o e refl refl at.rank at.there) in
       ap acted_changed k
       ∙ again_is tally n' c run stage e trades room
       ∙ (λ i. acted_as tally c run (cond trades (arrive stage n' e (g i) Altered (sweep d o.number w.price (listed (opposite d) (g i)) w.volume)) (queue stage n' e (g i) Altered)))

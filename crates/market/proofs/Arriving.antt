@@ -13,7 +13,7 @@ use Rattle.book.specs.declared.slip.Slip.{Slip}
 use Rattle.book.specs.declared.slip.Slip.TheVariants.{Lapse}
 use Rattle.book.specs.declared.stage.Stage.{Stage}
 use Rattle.book.specs.Day.{Swept, sweep, arrive, queue, Reply, done}
-use Rattle.market.specs.Fills.{put, on_side, Ended, swept, Filled, filled, arrived}
+use Rattle.market.specs.Fills.{put, with_listed, Ended, swept, Filled, filled, arrived}
 use Rattle.market.specs.Outcome.{written_into, Acted, acted, acted_as}
 use Rattle.market.proofs.Runs.{put_append}
 
@@ -46,11 +46,11 @@ sweep_count d n p (o ∷ os) v =
     (λ _. let ih = sweep_count d n p os (v - o.volume) in omega arith)
     (λ _. omega arith))
 
-pub listed_across : (d : Direction) (xs : List Order) (c : Contents) → listed d (on_side (opposite d) xs c) ≡ listed d c
+pub listed_across : (d : Direction) (xs : List Order) (c : Contents) → listed d (with_listed (opposite d) xs c) ≡ listed d c
 listed_across Buy xs c = refl
 listed_across Sell xs c = refl
 
-pub listed_own : (d : Direction) (xs : List Order) (c : Contents) → listed (opposite d) (on_side d xs c) ≡ listed (opposite d) c
+pub listed_own : (d : Direction) (xs : List Order) (c : Contents) → listed (opposite d) (with_listed d xs c) ≡ listed (opposite d) c
 listed_own Buy xs c = refl
 listed_own Sell xs c = refl
 
@@ -75,7 +75,7 @@ module _ (stage : Stage) (tally tally' : ℕ) (e : Order) (c : Contents) (run : 
   w = swept d e.number e.price e.volume 0 c run
 
   abbrev after : Contents
-  after = on_side a s.rest c
+  after = with_listed a s.rest c
 
   zero_length : 0 + length s.slips ≡ length s.slips
   zero_length = zero-add (length s.slips)

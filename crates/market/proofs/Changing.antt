@@ -12,8 +12,8 @@ use Rattle.book.specs.declared.slip.Slip.{Slip}
 use Rattle.book.specs.declared.stage.Stage.{Stage}
 use Rattle.book.specs.Day.{moves, is_open}
 use Rattle.market.specs.declared.alters.Wanted.{Wanted}
-use Rattle.market.specs.Altered.{left_by, again, as_placed, Changed, changed, changes}
-use Rattle.market.specs.Fills.{on_side}
+use Rattle.market.specs.Altered.{without_order, again, as_placed, Changed, changed, changes}
+use Rattle.market.specs.Fills.{with_listed}
 use Rattle.market.specs.Rows.{Placed, placed}
 use Rattle.market.proofs.Altering.{Held, looked_up, kept_in_place, takes_again}
 use Rattle.market.proofs.Taking.{get_is, stands, few, set_listed}
@@ -23,7 +23,7 @@ set_back [] i o h = refl
 set_back (x ∷ xs) zero o h = let y : x ≡ o = cc in ap (λ z. z ∷ xs) (sym y)
 set_back (x ∷ xs) (suc i) o h = ap (λ ys. x ∷ ys) (set_back xs i o h)
 
-side_back : (d : Direction) (c : Contents) → on_side d (listed d c) c ≡ c
+side_back : (d : Direction) (c : Contents) → with_listed d (listed d c) c ≡ c
 side_back Buy c = refl
 side_back Sell c = refl
 
@@ -35,7 +35,7 @@ as_it_was c s o found some =
     let sv = set_volume_at o.number o.volume (listed d c) at.rank o (stands c s d at.rank o at.there) (few c s d at.rank o at.there) in
     sym (
     set_listed c s d at.rank o at.there o.volume (λ z. omega arith)
-    ∙ ap (λ ys. on_side d ys c) (sym (ap (λ z. set (listed d c) at.rank (with_volume o.volume z)) (sym (get_is (listed d c) at.rank o o at.there)) ∙ sv) ∙ set_back (listed d c) at.rank o at.there)
+    ∙ ap (λ ys. with_listed d ys c) (sym (ap (λ z. set (listed d c) at.rank (with_volume o.volume z)) (sym (get_is (listed d c) at.rank o o at.there)) ∙ sv) ∙ set_back (listed d c) at.rank o at.there)
     ∙ side_back d c
     )
 
@@ -85,7 +85,7 @@ module _ (stage : Stage) (tally : ℕ) (w : Wanted) (o : Order) (c : Contents) (
       let t : false ≡ (is_open stage && other) = sym (and_false (is_open stage)) ∙ ap (λ q. is_open stage && q) (sym b) in
       let at : Held o.number c o = looked_up o.number c s o found in
       let again_taken = takes_again c s o (with_volume w.volume o) refl refl at.rank at.there in
-      let there = h ∙ kept_in_place c s o w.volume at.rank at.there (λ z. omega arith) ∙ sym (cond-true _ (put_in (with_volume w.volume o) (left_by o c)) (left_by o c) again_taken) in
+      let there = h ∙ kept_in_place c s o w.volume at.rank at.there (λ z. omega arith) ∙ sym (cond-true _ (put_in (with_volume w.volume o) (without_order o c)) (without_order o c) again_taken) in
       let e : with_volume w.volume o ≡ arriving o.arrival o w = λ i. record { number = o.number; member = o.member; direction = o.direction; price = sym same i; market = o.market; volume = w.volume; arrival = o.arrival } in
       (λ i. changed tally (placed (Ok (record { traded = 0; held = w.volume; written = 0 })) (there i) run))
       ∙ (λ i. changed tally (as_placed (again false (e i) c run)))

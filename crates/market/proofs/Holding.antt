@@ -22,7 +22,7 @@ use Rattle.book.specs.declared.stage.Stage.{Stage}
 use Rattle.book.specs.declared.stage.Stage.TheVariants.{PreOpen, Open, PreClose, Closed}
 use Rattle.book.specs.Day.{Day, Outcome, refused_by, done, entering, altered, alter_tally, moves, by_row, limit_row, refuse, owned, is_open, is_closed, full, short_run, short_strike, Reply, Swept, sweep, dealt, placed, arrive, queue, enter, alter, withdraw, advance, strike, step, Paired, match_at, limits, fixing_price}
 use Rattle.book.proofs.Sided.{length-without}
-use Rattle.market.specs.Fills.{on_side}
+use Rattle.market.specs.Fills.{with_listed}
 use Rattle.market.specs.Strikes.{orders_of}
 use Rattle.market.specs.Outcome.{Kept, day_at}
 use Rattle.market.proofs.Altering.{Held, looked_up}
@@ -41,7 +41,7 @@ of_parts : (c : Contents) (bs ss : List Order) → Part bs c.book.buys → Part 
 of_parts c bs ss h k =
     record { orders = omega (arith, h.shorter, k.shorter); numbers = λ m. omega (arith, h.numbers m, k.numbers m) }
 
-of_side : (c : Contents) (d : Direction) (xs : List Order) → Part xs (listed d c) → Fewer (on_side d xs c) c
+of_side : (c : Contents) (d : Direction) (xs : List Order) → Part xs (listed d c) → Fewer (with_listed d xs c) c
 of_side c Buy xs h = of_parts c xs c.book.sells h (part_same c.book.sells)
 of_side c Sell xs h = of_parts c c.book.buys xs (part_same c.book.buys) h
 
@@ -63,19 +63,19 @@ removed_one n c h =
     (cases_lt 0 (times n c.book.buys + times n c.book.sells)))
     (λ k. absurd (both_ways true (sym h ∙ k) refl))
 
-put_orders : (d : Direction) (e : Order) (x : Contents) → orders_of (on_side d (insert (before d) e (listed d x)) x) ≡ orders_of x + 1
+put_orders : (d : Direction) (e : Order) (x : Contents) → orders_of (with_listed d (insert (before d) e (listed d x)) x) ≡ orders_of x + 1
 put_orders Buy e x = omega (arith, length-insert (before Buy) e x.book.buys)
 put_orders Sell e x = omega (arith, length-insert (before Sell) e x.book.sells)
 
 put_times : (d : Direction) (e : Order) (x : Contents) (m : ℕ) → (e.number ≡ m → ⊥) →
-    times m (on_side d (insert (before d) e (listed d x)) x).book.buys + times m (on_side d (insert (before d) e (listed d x)) x).book.sells
+    times m (with_listed d (insert (before d) e (listed d x)) x).book.buys + times m (with_listed d (insert (before d) e (listed d x)) x).book.sells
     ≡ times m x.book.buys + times m x.book.sells
 put_times d e x m ne = go d
   where
     other : (lt : Order → Order → Bool) (xs : List Order) → times m (insert lt e xs) ≡ times m xs
     other lt xs = counted-insert (numbered m) lt e xs ∙ ap (λ b. cond b 1 0 + times m xs) (ne_eqb e.number m ne) ∙ zero-add (times m xs)
 
-    go : (k : Direction) → times m (on_side k (insert (before k) e (listed k x)) x).book.buys + times m (on_side k (insert (before k) e (listed k x)) x).book.sells ≡ times m x.book.buys + times m x.book.sells
+    go : (k : Direction) → times m (with_listed k (insert (before k) e (listed k x)) x).book.buys + times m (with_listed k (insert (before k) e (listed k x)) x).book.sells ≡ times m x.book.buys + times m x.book.sells
     go Buy = ap (λ n. n + times m x.book.sells) (other (before Buy) x.book.buys)
     go Sell = ap (λ n. times m x.book.buys + n) (other (before Sell) x.book.sells)
 

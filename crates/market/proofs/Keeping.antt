@@ -11,7 +11,7 @@ use Rattle.tables.specs.Meaning.{Contents, listed, book_of, held, takes}
 use Rattle.tables.proofs.Keeps.{free, held_none}
 use Rattle.tables.proofs.Numbers.{times-without}
 use Rattle.book.specs.Day.{Swept, sweep, Paired, pair, match_at, less, limits}
-use Rattle.market.specs.Fills.{on_side}
+use Rattle.market.specs.Fills.{with_listed}
 
 pub record Part (xs ys : List Order) : Type 0 where
   pub shorter : length xs ≤ length ys
@@ -84,10 +84,10 @@ without_part n xs =
     }
 
 -- the other side traded: an order that is taken is still taken
-pub takes_still : (c : Contents) (o : Order) (xs : List Order) → Part xs (listed (opposite o.direction) c) → takes c o ≡ true → takes (on_side (opposite o.direction) xs c) o ≡ true
+pub takes_still : (c : Contents) (o : Order) (xs : List Order) → Part xs (listed (opposite o.direction) c) → takes c o ≡ true → takes (with_listed (opposite o.direction) xs c) o ≡ true
 takes_still c o xs p h = go o.direction p (and_parts _ _ h).0 (free c.book o.number (not-true _ (and_parts _ _ h).1))
   where
     go : (d : Direction) → Part xs (listed (opposite d) c) → nat_lt (length (listed d c)) c.capacity.places ≡ true → times o.number c.book.buys + times o.number c.book.sells ≡ 0 →
-        (nat_lt (length (listed d (on_side (opposite d) xs c))) c.capacity.places && not (held o.number (on_side (opposite d) xs c).book)) ≡ true
+        (nat_lt (length (listed d (with_listed (opposite d) xs c))) c.capacity.places && not (held o.number (with_listed (opposite d) xs c).book)) ≡ true
     go Buy p l f = and_from _ _ l (not_from_false _ (held_none (book_of c.book.buys xs) o.number (omega (arith, p.numbers o.number))))
     go Sell p l f = and_from _ _ l (not_from_false _ (held_none (book_of xs c.book.sells) o.number (omega (arith, p.numbers o.number))))

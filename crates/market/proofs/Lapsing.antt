@@ -9,7 +9,7 @@ use Rattle.tables.specs.Meaning.{Contents, listed, holding, book_of}
 use Rattle.book.specs.declared.slip.Slip.{Slip}
 use Rattle.book.specs.declared.slip.Slip.TheVariants.{Lapse}
 use Rattle.book.specs.Day.{lapses, limits, match_at, turnover}
-use Rattle.market.specs.Fills.{put, on_side}
+use Rattle.market.specs.Fills.{put, with_listed}
 use Rattle.market.specs.Strikes.{orders_of, struck, paired_at, Lapsed, lapsed, lapse_on, lapse_all, struck_at}
 use Rattle.market.proofs.Runs.{put_append, put_length, turnover_append}
 use Rattle.market.proofs.Sweeping.{with_same, listed_on, on_twice}
@@ -66,14 +66,14 @@ remove_length (suc i) (x ∷ xs) o h = omega (arith, remove_length i xs o h)
 
 -- what the walk comes to from the rank i, with k slips written
 abbrev pub walk : Direction → ℕ → ℕ → Contents → List Slip → Lapsed
-walk d i k c run = lapsed (k + length (lapses_from i (listed d c))) (on_side d (limits_from i (listed d c)) c) (put k (lapses_from i (listed d c)) run)
+walk d i k c run = lapsed (k + length (lapses_from i (listed d c))) (with_listed d (limits_from i (listed d c)) c) (put k (lapses_from i (listed d c)) run)
 
 module _ (d : Direction) (i k : ℕ) (c : Contents) (run : List Slip) where
   pub walk_end : slice_get (listed d c) i ≡ None → walk d i k c run ≡ lapsed k c run
   walk_end h =
       let s = lapses_end i (listed d c) h in
       let n : k + length (lapses_from i (listed d c)) ≡ k = ap (λ x. k + length x) s ∙ add-zero k in
-      let e : on_side d (limits_from i (listed d c)) c ≡ c = ap (λ x. on_side d x c) (limits_end i (listed d c) h) ∙ with_same d c in
+      let e : with_listed d (limits_from i (listed d c)) c ≡ c = ap (λ x. with_listed d x c) (limits_end i (listed d c) h) ∙ with_same d c in
       let r : put k (lapses_from i (listed d c)) run ≡ run = ap (λ x. put k x run) s in
       λ j. lapsed (n j) (e j) (r j)
 
@@ -82,19 +82,19 @@ module _ (d : Direction) (i k : ℕ) (c : Contents) (run : List Slip) where
     walk_next m =
         let s = sym (lapses_next i (listed d c) o h m) in
         let e = sym (limits_next i (listed d c) o h m) in
-        rw add-one (λ j. lapsed (k + length (s j)) (on_side d (e j) c) (put k (s j) run))
+        rw add-one (λ j. lapsed (k + length (s j)) (with_listed d (e j) c) (put k (s j) run))
 
-    pub walk_gone : o.market ≡ true → walk d i k c run ≡ walk d i (k + 1) (on_side d (remove (listed d c) i) c) (set run k (Lapse o.number o.volume))
+    pub walk_gone : o.market ≡ true → walk d i k c run ≡ walk d i (k + 1) (with_listed d (remove (listed d c) i) c) (set run k (Lapse o.number o.volume))
     walk_gone m =
         let xs = listed d c in
         let ys = remove xs i in
         let slip = Lapse o.number o.volume in
-        let q : ys ≡ listed d (on_side d ys c) = sym (listed_on d ys c) in
+        let q : ys ≡ listed d (with_listed d ys c) = sym (listed_on d ys c) in
         let s = lapses_gone i xs o h m in
         let e = sym (limits_gone i xs o h m) in
         let n : k + length (slip ∷ lapses_from i ys) ≡ (k + 1) + length (lapses_from i ys) = omega arith in
         let written = ap (λ z. k + length z) s ∙ n ∙ ap (λ z. (k + 1) + length (lapses_from i z)) q in
-        let book = ap (λ z. on_side d z c) e ∙ sym (on_twice d (limits_from i ys) ys c) ∙ ap (λ z. on_side d (limits_from i z) (on_side d ys c)) q in
+        let book = ap (λ z. with_listed d z c) e ∙ sym (on_twice d (limits_from i ys) ys c) ∙ ap (λ z. with_listed d (limits_from i z) (with_listed d ys c)) q in
         let after = ap (λ z. put k z run) s ∙ ap (λ z. put (k + 1) (lapses_from i z) (set run k slip)) q in
         λ j. lapsed (written j) (book j) (after j)
 

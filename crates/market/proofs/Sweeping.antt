@@ -10,18 +10,18 @@ use Rattle.tables.specs.Listing.{with_volume}
 use Rattle.tables.specs.Meaning.{Contents, listed}
 use Rattle.book.specs.declared.slip.Slip.{Slip}
 use Rattle.book.specs.Day.{Swept, sweep, swept as slipped, trade}
-use Rattle.market.specs.Fills.{put, took, on_side, took_on, ended, over, swept}
+use Rattle.market.specs.Fills.{put, took, with_listed, took_on, ended, over, swept}
 use Rattle.market.proofs.Taking.{first_list}
 
-pub with_same : (d : Direction) (c : Contents) → on_side d (listed d c) c ≡ c
+pub with_same : (d : Direction) (c : Contents) → with_listed d (listed d c) c ≡ c
 with_same Buy c = refl
 with_same Sell c = refl
 
-pub listed_on : (d : Direction) (xs : List Order) (c : Contents) → listed d (on_side d xs c) ≡ xs
+pub listed_on : (d : Direction) (xs : List Order) (c : Contents) → listed d (with_listed d xs c) ≡ xs
 listed_on Buy xs c = refl
 listed_on Sell xs c = refl
 
-pub on_twice : (d : Direction) (xs ys : List Order) (c : Contents) → on_side d xs (on_side d ys c) ≡ on_side d xs c
+pub on_twice : (d : Direction) (xs ys : List Order) (c : Contents) → with_listed d xs (with_listed d ys c) ≡ with_listed d xs c
 on_twice Buy xs ys c = refl
 on_twice Sell xs ys c = refl
 
@@ -42,7 +42,7 @@ module _ (d : Direction) (n p : ℕ) where
 
   -- one slip more
   over_slip : (ys : List Order) (k : ℕ) (c : Contents) (run : List Slip) (s : Slip) (w : Swept) →
-      over a k c run (slipped s w) ≡ over a (k + 1) (on_side a ys c) (set run k s) w
+      over a k c run (slipped s w) ≡ over a (k + 1) (with_listed a ys c) (set run k s) w
   over_slip ys k c run s w =
       let e = sym (on_twice a w.rest ys c) in
       let m : k + length (s ∷ w.slips) ≡ (k + 1) + length w.slips = omega arith in
@@ -100,10 +100,10 @@ module _ (d : Direction) (n p : ℕ) where
       let f = first_list (listed a c) o h in
       let s = trade d n o.number o.price m in
       let ys = took m (listed a c) in
-      let x : sweep d n p (listed a c) v ≡ slipped s (sweep d n p (listed a (on_side a ys c)) (v - m)) =
+      let x : sweep d n p (listed a c) v ≡ slipped s (sweep d n p (listed a (with_listed a ys c)) (v - m)) =
       ap (λ xs. sweep d n p xs v) f.1 ∙ turn o f.0 v m goes e
       ∙ ap (λ xs. slipped s (sweep d n p xs (v - m))) (ap (took m) (sym f.1) ∙ sym (listed_on a ys c)) in
-      ap (over a k c run) x ∙ over_slip ys k c run s (sweep d n p (listed a (on_side a ys c)) (v - m))
+      ap (over a k c run) x ∙ over_slip ys k c run s (sweep d n p (listed a (with_listed a ys c)) (v - m))
 
 pub first_length : (xs : List Order) (o : Order) → slice_get xs 0 ≡ Some o → 0 < length xs
 first_length xs o h = let f = first_list xs o h in omega (arith, ap length f.1)

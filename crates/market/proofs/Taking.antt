@@ -13,7 +13,7 @@ use Rattle.tables.specs.Stored.{Stands}
 use Rattle.tables.proofs.Keeps.{held_on, removed_at, volume_set_at}
 use Rattle.tables.proofs.InOrder.{side_apart}
 use Rattle.tables.proofs.Numbers.{without_at, set_volume_at}
-use Rattle.market.specs.Fills.{took, took_on, on_side}
+use Rattle.market.specs.Fills.{took, took_on, with_listed}
 
 -- a read that finds
 pub get_below : (xs : List Order) (i : ℕ) (o : Order) → slice_get xs i ≡ Some o → i < length xs
@@ -56,21 +56,21 @@ module _ (c : Contents) (s : Sound c) (d : Direction) (i : ℕ) (o : Order) (h :
   pub is_held : held o.number c.book ≡ true
   is_held = held_on c.book o.number d i stands
 
-  pub removed_at_rank : removed o.number c ≡ on_side d (lists.remove (listed d c) i) c
+  pub removed_at_rank : removed o.number c ≡ with_listed d (lists.remove (listed d c) i) c
   removed_at_rank =
       cond-true _ _ c is_held ∙ ap (holding c) (sym (removed_at c.book o.number (s.once o.number) d i stands))
 
-  pub removed_listed : removed o.number c ≡ on_side d (without o.number (listed d c)) c
-  removed_listed = removed_at_rank ∙ ap (λ xs. on_side d xs c) (without_at o.number (listed d c) i stands few)
+  pub removed_listed : removed o.number c ≡ with_listed d (without o.number (listed d c)) c
+  removed_listed = removed_at_rank ∙ ap (λ xs. with_listed d xs c) (without_at o.number (listed d c) i stands few)
 
   pub sets_listed : (v : ℕ) → (v ≡ 0 → ⊥) → sets_volume o.number v c ≡ true
   sets_listed v p = and_from _ _ (not_from_false _ (ne_eqb v 0 p)) is_held
 
-  pub set_listed : (v : ℕ) → (v ≡ 0 → ⊥) → volume_set o.number v c ≡ on_side d (set_volume o.number v (listed d c)) c
+  pub set_listed : (v : ℕ) → (v ≡ 0 → ⊥) → volume_set o.number v c ≡ with_listed d (set_volume o.number v (listed d c)) c
   set_listed v p =
       cond-true _ _ c (sets_listed v p)
       ∙ ap (holding c) (sym (volume_set_at c.book o.number (s.once o.number) d i stands v o))
-      ∙ ap (λ xs. on_side d xs c) (set_volume_at o.number v (listed d c) i o stands few)
+      ∙ ap (λ xs. with_listed d xs c) (set_volume_at o.number v (listed d c) i o stands few)
 
 -- the first order of the side d
 module _ (c : Contents) (s : Sound c) (d : Direction) (o : Order) (h : slice_get (listed d c) 0 ≡ Some o) where
@@ -88,7 +88,7 @@ module _ (c : Contents) (s : Sound c) (d : Direction) (o : Order) (h : slice_get
       let a : without o.number (o ∷ f.0) ≡ f.0 = sym (without_at o.number (o ∷ f.0) 0 firsts one) in
       let b : took v (o ∷ f.0) ≡ f.0 = cond-true _ _ _ (le-leb o.volume v (omega arith)) in
       removed_listed c s d 0 o h
-      ∙ ap (λ xs. on_side d xs c) (ap (without o.number) f.1 ∙ a ∙ sym b ∙ ap (took v) (sym f.1))
+      ∙ ap (λ xs. with_listed d xs c) (ap (without o.number) f.1 ∙ a ∙ sym b ∙ ap (took v) (sym f.1))
 
   pub took_part : (v : ℕ) → v < o.volume → volume_set o.number (o.volume - v) c ≡ took_on d v c
   took_part v e =
@@ -96,4 +96,4 @@ module _ (c : Contents) (s : Sound c) (d : Direction) (o : Order) (h : slice_get
       let a : set_volume o.number w (o ∷ f.0) ≡ with_volume w o ∷ f.0 = sym (set_volume_at o.number w (o ∷ f.0) 0 o firsts one) in
       let b : took v (o ∷ f.0) ≡ with_volume w o ∷ f.0 = cond-false _ _ _ (lt-leb _ _ e) in
       set_listed c s d 0 o h w (λ z. omega arith)
-      ∙ ap (λ xs. on_side d xs c) (ap (set_volume o.number w) f.1 ∙ a ∙ sym b ∙ ap (took v) (sym f.1))
+      ∙ ap (λ xs. with_listed d xs c) (ap (set_volume o.number w) f.1 ∙ a ∙ sym b ∙ ap (took v) (sym f.1))

@@ -7,16 +7,16 @@ use Rattle.book.specs.declared.slip.Slip.{Slip}
 use Rattle.book.specs.declared.stage.Stage.{Stage}
 use Rattle.book.specs.Day.{altered, alter_tally, is_open}
 use Rattle.market.specs.declared.alters.Wanted.{Wanted}
-use Rattle.market.specs.Fills.{Filled, filled, arrived, on_side}
+use Rattle.market.specs.Fills.{Filled, filled, arrived, with_listed}
 use Rattle.market.specs.Rows.{Placed, placed}
 
--- the table without an order
-abbrev pub left_by : Order → Contents → Contents
-left_by o c = on_side o.direction (without o.number (listed o.direction c)) c
+-- the table without the order
+abbrev pub without_order : Order → Contents → Contents
+without_order o c = with_listed o.direction (without o.number (listed o.direction c)) c
 
 -- the order enters again, and trades first if it is to
 abbrev pub again : Bool → Order → Contents → List Slip → Filled
-again trades o c run = cond trades (arrived o (left_by o c) run) (filled 0 o.volume 0 (added o (left_by o c)) run)
+again trades o c run = cond trades (arrived o (without_order o c) run) (filled 0 o.volume 0 (added o (without_order o c)) run)
 
 abbrev pub as_placed : Filled → Placed
 as_placed f = placed (Ok (record { traded = f.traded; held = f.held; written = f.written })) f.after f.run

@@ -20,11 +20,11 @@ took v [] = []
 took v (o ∷ os) = less v o os
 
 -- the contents with another list for one side
-abbrev pub on_side : Direction → List Order → Contents → Contents
-on_side d os c = holding c (with_side d os c.book)
+abbrev pub with_listed : Direction → List Order → Contents → Contents
+with_listed d os c = holding c (with_side d os c.book)
 
 abbrev pub took_on : Direction → ℕ → Contents → Contents
-took_on d v c = on_side d (took v (listed d c)) c
+took_on d v c = with_listed d (took v (listed d c)) c
 
 -- what a sweep comes to: the volume left, the slips written, the table and the run
 pub record Ended : Type 0 where
@@ -38,7 +38,7 @@ ended v k c run = record { left = v; written = k; after = c; run = run }
 
 -- the end of a sweep of which k slips were written before
 abbrev pub over : Direction → ℕ → Contents → List Slip → Swept → Ended
-over d k c run w = ended w.left (k + length w.slips) (on_side d w.rest c) (put k w.slips run)
+over d k c run w = ended w.left (k + length w.slips) (with_listed d w.rest c) (put k w.slips run)
 
 -- the order n of side d and price p, of which v is left and k slips are written, trades with the other side
 abbrev pub swept : Direction → ℕ → ℕ → ℕ → ℕ → Contents → List Slip → Ended

@@ -17,23 +17,28 @@ use Rattle.market.specs.declared.alters.Wanted.{Wanted}
 use Rattle.market.specs.declared.entries.Fill.{Fill}
 use Rattle.market.specs.Fills.{Filled, filled, arrived}
 
+-- the session is closed
 abbrev pub closed_row : Stage → Option ℕ
 closed_row stage = unless (not (is_closed stage)) 3
 
--- the first row that holds
+-- what an enter and an alter are asked alike: the first row that holds
 abbrev pub entry_rows : Terms → Stage → ℕ → Option ℕ → ℕ → Option ℕ
 entry_rows t stage member limit volume =
     option_or (closed_row stage) (option_or (member_row member) (option_or (volume_row t.block volume) (limit_row t limit)))
 
+-- all arrivals are given
 abbrev pub arrivals_row : ℕ → Option ℕ
 arrivals_row tally = unless (nat_lt tally 1000000) 10
 
+-- the side has no place left
 abbrev pub side_row : Direction → Contents → Option ℕ
 side_row d c = unless (nat_lt (length (listed d c)) c.capacity.places) 11
 
+-- in Open the run has no place for each order of the other side and one more
 abbrev pub run_row : Stage → ℕ → Direction → Contents → Option ℕ
 run_row stage room d c = cond (is_open stage) (unless (nat_lt (length (listed (opposite d) c)) room) 12) None
 
+-- the run has no place for each order held
 abbrev pub strike_row : ℕ → Contents → Option ℕ
 strike_row room c = unless (nat_le (length (listed Buy c) + length (listed Sell c)) room) 12
 
@@ -42,6 +47,7 @@ abbrev pub owned : ℕ → Option Order → Result Order ℕ
 owned member None = Err 7
 owned member (Some o) = cond (member == o.member) (Ok o) (Err 8)
 
+-- a result as a caller is told it: a refusal by its number
 abbrev pub told : {X : Type 0} → Result X Refusal → Result X ℕ
 told (Ok x) = Ok x
 told (Err e) = Err (number e)
@@ -74,6 +80,7 @@ places_of stage o c run =
     by_rows (option_or (side_row o.direction c) (run_row stage (length run) o.direction c)) c run
     (filling stage o c run)
 
+-- the row's number where it holds, else the result
 abbrev pub by_row : {X : Type 0} → Option ℕ → Result X ℕ → Result X ℕ
 by_row (Some n) r = Err n
 by_row None r = r
@@ -83,6 +90,7 @@ abbrev pub alter_rows : Stage → ℕ → Contents → ℕ → Order → Result 
 alter_rows stage tally c room o =
     by_row (unless (not o.market) 9) (by_row (arrivals_row tally) (by_row (run_row stage room o.direction c) (Ok o)))
 
+-- what follows of the order that was named
 abbrev pub named : Result Order ℕ → (Order → Result Order ℕ) → Result Order ℕ
 named (Ok o) go = go o
 named (Err n) go = Err n

@@ -4,7 +4,7 @@ use Rattle.rules.specs.declared.order.Direction.{Direction}
 use Rattle.tables.specs.Meaning.{Contents, listed, holding, book_of}
 use Rattle.book.specs.declared.slip.Slip.{Slip}
 use Rattle.book.specs.Day.{Paired, pair, match_at, turnover, lapses, limits}
-use Rattle.market.specs.Fills.{put, on_side}
+use Rattle.market.specs.Fills.{put, with_listed}
 
 -- how many orders a table holds
 abbrev pub orders_of : Contents → ℕ
@@ -43,7 +43,7 @@ lapsed k c run = record { written = k; after = c; run = run }
 -- the market orders of the side d lapse
 abbrev pub lapse_on : Direction → ℕ → Contents → List Slip → Lapsed
 lapse_on d k c run =
-    lapsed (k + length (lapses (listed d c))) (on_side d (limits (listed d c)) c) (put k (lapses (listed d c)) run)
+    lapsed (k + length (lapses (listed d c))) (with_listed d (limits (listed d c)) c) (put k (lapses (listed d c)) run)
 
 -- the market orders of both sides lapse, buys first
 abbrev pub lapse_all : ℕ → Contents → List Slip → Lapsed

@@ -1,4 +1,4 @@
-// The orders of a table as the curve of a fixing.
+// A table's orders as the curve of a fixing.
 ghost use Rattle.std.specs.Prelude.{◌≡◌, ◌++◌};
 ghost use Rattle.std.specs.List.{slice_get};
 ghost use Rattle.rules.specs.Curve.{depth};
@@ -11,7 +11,7 @@ use rules::side::{Buys, Quotes, Sells};
 use tables::table::Table;
 
 #[derive(Drop)]
-pub struct Held<'a, T: Table> {
+pub struct TableCurve<'a, T: Table> {
     pub table: &'a T,
 }
 
@@ -36,7 +36,7 @@ fn depth_on<S: Quotes, T: Table>(table: &T, p: u32) -> u128
     sum
 }
 
-impl<'a, T: Table> Curve for Held<'a, T> {
+impl<'a, T: Table> Curve for TableCurve<'a, T> {
     ghost book = { λ h. (T.Table.contents h.table.now).book };
 
     ghost orders = { λ h. (T.Table.contents h.table.now).book.buys ++ (T.Table.contents h.table.now).book.sells };

@@ -28,7 +28,8 @@ pub struct Session<T: Table> {
     table: T,
 }
 
-// A session means its terms, and its day with what the next reference price needs.
+// A session means its terms, and its day with what the next reference price needs. Its invariant is what lets a new
+// number be free, and the orders be counted.
 impl<T: Table> Model for Session<T> {
     ghost use Rattle.market.specs.Outcome.{Kept};
     ghost use Rattle.market.specs.Works.{Seen, seen};

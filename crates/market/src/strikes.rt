@@ -4,7 +4,7 @@ ghost use Rattle.tables.specs.Meaning.{listed};
 ghost use Rattle.book.specs.Day.{fixing_price};
 ghost use Rattle.market.specs.Strikes.{orders_of, struck, paired, lapsed, lapse_on, paired_at, lapse_all, struck_at};
 
-use crate::curve::Held;
+use crate::curve::TableCurve;
 use crate::fills::take;
 use book::slip::Slip;
 use rules::fixing::fixing_on;
@@ -26,7 +26,7 @@ pub struct Struck {
 fn price_of<T: Table>(terms: &Terms, table: &T) -> Option<u32>
     ensures { result ≡ fixing_price terms.now (T.Table.contents table.now).book }
 {
-    fixing_on(terms, &Held { table }).map(|best| best.price)
+    fixing_on(terms, &TableCurve { table }).map(|best| best.price)
 }
 
 // The first buy trades with the first sell while both are willing at the price.

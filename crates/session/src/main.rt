@@ -22,11 +22,12 @@ fn answer(heap: Global, file: &[u8]) -> Result<String, AllocError>
     ensures exact { IfOk result (λ text. string_bytes text ≡ answered record { places = 128 } 512 file.now) }
 {
     let mut places = [Order::limit(0, 0, Direction::Buy, 0, 0); 256];
-    let mut run = [Slip::Lapse {
+    let slip = Slip::Lapse {
         number: 0,
         volume: 0,
-    }; 512];
-    answer_file(heap, file, Queue::new(&mut places), &mut run)
+    };
+    let run = Vec::from_slice(heap, &[slip; 512])?;
+    answer_file(heap, file, Queue::new(&mut places), run)
 }
 
 // Reads a file and writes the text that it is answered with. Of a file that is too long, one byte too many is read.

@@ -28,15 +28,15 @@ fn over_queue(heap: Global, places: usize, room: usize, file: &[u8]) -> Result<S
     ensures { IfOk result (λ text. string_bytes text ≡ answered (room_of places) room file.now) }
 {
     let mut orders = vec![in heap; no_order(); places]?;
-    let mut run = vec![in heap; NO_SLIP; room]?;
-    answer_file(heap, file, Queue::new(&mut orders), &mut run)
+    let run = vec![in heap; NO_SLIP; room]?;
+    answer_file(heap, file, Queue::new(&mut orders), run)
 }
 
 fn over_slots(heap: Global, room: usize, file: &[u8]) -> Result<String, AllocError>
     ensures { IfOk result (λ text. string_bytes text ≡ answered (room_of 64) room file.now) }
 {
-    let mut run = vec![in heap; NO_SLIP; room]?;
-    answer_file(heap, file, Slots::new(heap)?, &mut run)
+    let run = vec![in heap; NO_SLIP; room]?;
+    answer_file(heap, file, Slots::new(heap)?, run)
 }
 
 // Whether each of the tables gives the text.

@@ -8,6 +8,7 @@ use Rattle.rules.specs.Terms as terms
 use Rattle.rules.specs.declared.refusal.Refusal.{Refusal}
 use Rattle.rules.specs.declared.terms.Terms.{Terms}
 use Rattle.market.specs.Rows.{told}
+use Rattle.session_file.specs.Laws.{figures, TermsByTheRules}
 use Rattle.session_file.specs.Opening.{judged, terms_from}
 
 terms_same : (u t : Terms) → u.reference ≡ t.reference → u.block ≡ t.block → u.lo ≡ t.lo → u.hi ≡ t.hi → u ≡ t
@@ -60,3 +61,11 @@ module _ (r b : ℕ) where
 
   pub terms_found : (res : Result Terms Refusal) → terms.answer res ≡ terms.terms_of r b → told res ≡ terms_from r b
   terms_found res e = found (within 1 1000000 r) (within 1 10000 b) refl refl res e
+
+by_rules : (r b : ℕ) (x y : Bool) (p : within 1 1000000 r ≡ x) (q : within 1 10000 b ≡ y) → figures (judged r b x y p q) ≡ cond x (cond y (terms.made r b (lowest r) (highest r)) (terms.refused 2)) (terms.refused 1)
+by_rules r b true true p q = refl
+by_rules r b true false p q = refl
+by_rules r b false y p q = refl
+
+pub terms_by_rules : TermsByTheRules
+terms_by_rules r b = by_rules r b (within 1 1000000 r) (within 1 10000 b) refl refl

@@ -1,9 +1,12 @@
--- What is shown of the lines.
-use Rattle.std.specs.Prelude.{◌≡◌, ℕ, ◌+◌, ◌^◌, ◌<◌, List, ◌∷◌, ◌++◌, Ok, ◌↔◌}
+-- What is shown of the lines, and of the terms that they say.
+use Rattle.std.specs.Prelude.{◌≡◌, ℕ, ◌+◌, ◌^◌, ◌<◌, List, ◌∷◌, ◌++◌, Result, Ok, Err, ◌↔◌}
 use Rattle.std.specs.Fmt.{decimal}
+use Rattle.rules.specs.Terms as terms
+use Rattle.rules.specs.declared.terms.Terms.{Terms}
 use Rattle.book.specs.declared.call.Call.{Call}
 use Rattle.session_file.specs.Grammar.{Number, Line, ReadsAs}
 use Rattle.session_file.specs.Lines.{Ahead, number_line, call_line}
+use Rattle.session_file.specs.Opening.{terms_from}
 
 -- a line reads as one call at most
 abbrev pub OneCall : Type 0
@@ -23,6 +26,15 @@ NumbersRead = (n : ℕ) (ahead behind : Ahead) → (number_line ahead ≡ Ok (n,
 -- and a call
 abbrev pub CallsRead : Type 0
 CallsRead = (call : Call) (ahead behind : Ahead) → (call_line ahead ≡ Ok (call, behind)) ↔ Begins (Line call) ahead behind
+
+-- the figures of terms, or the number of their refusal
+abbrev pub figures : Result Terms ℕ → terms.Outcome
+figures (Ok t) = terms.made t.reference t.block t.lo t.hi
+figures (Err n) = terms.refused n
+
+-- a file's terms are those of the rules
+abbrev pub TermsByTheRules : Type 0
+TermsByTheRules = (reference block : ℕ) → figures (terms_from reference block) ≡ terms.terms_of reference block
 
 -- a number of at most nine digits is read as it is printed
 abbrev pub PrintedRead : Type 0

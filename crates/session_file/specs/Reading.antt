@@ -1,4 +1,4 @@
--- How a line is read. That this is the grammar is promised beside it, of `number` and `read_call`.
+-- How a line is read. That this is the grammar is promised beside it, of `read_number` and `read_call`.
 use Rattle.std.specs.Prelude.{ℕ, ◌+◌, ◌*◌, Bool, List, [], ◌∷◌, Option, Some, None, length, slice_index, nat_lt, nat_le, ◌==◌, ◌&&◌, not, if◌then◌else◌}
 use Rattle.std.specs.Char.{digit_value}
 use Rattle.rules.specs.declared.order.Direction.{Direction}

@@ -113,20 +113,20 @@ fn answer_sections<T: Table + Drop>(
     answer_calls(heap, lines, count, terms, table, run, out)
 }
 
-// The text that a file is answered with, over a table. The run is room to work in.
+// The text that a file is answered with, over a table and a run, which are spent.
 pub fn answer_file<T: Table + Drop>(
     heap: Global,
     file: &[u8],
     table: T,
-    run: &mut [Slip],
+    mut run: Vec<Slip>,
 ) -> Result<String, AllocError>
-    ensures in_turn { IfOk result (λ text. AnsweredInTurn (T.Table.contents table).capacity (length run.old) file.now (string_bytes text)) }
-    ensures lawful { IfOk result (λ text. AnsweredLawfully (T.Table.contents table).capacity (length run.old) file.now (string_bytes text)) }
-    ensures broken { IfOk result (λ text. BrokenInTurn (T.Table.contents table).capacity (length run.old) file.now (string_bytes text)) }
-    ensures exact { IfOk result (λ text. string_bytes text ≡ answered (T.Table.contents table).capacity (length run.old) file.now) }
+    ensures in_turn { IfOk result (λ text. AnsweredInTurn (T.Table.contents table).capacity (length run.items) file.now (string_bytes text)) }
+    ensures lawful { IfOk result (λ text. AnsweredLawfully (T.Table.contents table).capacity (length run.items) file.now (string_bytes text)) }
+    ensures broken { IfOk result (λ text. BrokenInTurn (T.Table.contents table).capacity (length run.items) file.now (string_bytes text)) }
+    ensures exact { IfOk result (λ text. string_bytes text ≡ answered (T.Table.contents table).capacity (length run.items) file.now) }
 {
     let mut out = String::new(heap);
-    let last = match answer_sections(heap, file, table, run, &mut out) {
+    let last = match answer_sections(heap, file, table, &mut run, &mut out) {
         Ok(reference) => OutputLine::NextReference(reference),
         Err(Stop::Broken(fault)) => OutputLine::from(fault),
         Err(Stop::Refused(refusal)) => OutputLine::from(refusal),

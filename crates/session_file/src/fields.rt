@@ -4,7 +4,7 @@ ghost use Rattle.session_file.specs.Cut.{fields, left, is_empty, Taken};
 ghost use Rattle.session_file.specs.Reading.{letter_of, side_of, limit_of};
 
 use crate::cut::cut_at;
-use crate::number::number;
+use crate::number::read_number;
 use rules::order::Direction;
 
 #[derive(Drop)]
@@ -43,7 +43,7 @@ impl<'a> Fields<'a> {
     }
 }
 
-pub fn letter(field: &[u8]) -> Option<char>
+pub fn read_letter(field: &[u8]) -> Option<char>
     ensures { result ≡ letter_of field.now }
 {
     match field {
@@ -52,10 +52,10 @@ pub fn letter(field: &[u8]) -> Option<char>
     }
 }
 
-pub fn side(field: &[u8]) -> Option<Direction>
+pub fn read_side(field: &[u8]) -> Option<Direction>
     ensures { result ≡ side_of field.now }
 {
-    match letter(field)? {
+    match read_letter(field)? {
         'B' => Some(Direction::Buy),
         'S' => Some(Direction::Sell),
         _ => None,
@@ -63,11 +63,11 @@ pub fn side(field: &[u8]) -> Option<Direction>
 }
 
 // The limit price; none for the M of a market order.
-pub fn limit(field: &[u8]) -> Option<Option<u32>>
+pub fn read_limit(field: &[u8]) -> Option<Option<u32>>
     ensures { result ≡ limit_of field.now }
 {
-    match letter(field) {
+    match read_letter(field) {
         Some('M') => Some(None),
-        _ => number(field).map(Some),
+        _ => read_number(field).map(Some),
     }
 }

@@ -3,7 +3,7 @@ ghost use Rattle.std.specs.Prelude.{◌≡◌, ◌+◌, ◌≤◌, length};
 
 use crate::cut::cut_at;
 use crate::fault::Fault;
-use crate::number::number;
+use crate::number::read_number;
 use crate::reader::read_call;
 use book::call::Call;
 
@@ -56,7 +56,7 @@ impl<'a> Lines<'a> {
         ensures { found result ≡ number_line (ahead self.entry) }
     {
         let (line, behind) = self.first_line()?;
-        let n = number(line).ok_or(Fault::in_line(self.line))?;
+        let n = read_number(line).ok_or(Fault::in_line(self.line))?;
         Ok((n, behind))
     }
 

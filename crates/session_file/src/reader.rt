@@ -5,17 +5,17 @@ ghost use Rattle.session_file.specs.Cut.{left};
 ghost use Rattle.session_file.specs.Grammar.{ReadsAs};
 ghost use Rattle.session_file.specs.Reading.{enter_of, alter_of, withdraw_of, advance_of, lettered_call, letter_of, taking, call_of};
 
-use crate::fields::{Fields, letter, limit, side};
-use crate::number::number;
+use crate::fields::{Fields, read_letter, read_limit, read_side};
+use crate::number::read_number;
 use book::call::Call;
 
 fn enter(mut fields: Fields) -> Option<Call>
     ensures { result ≡ enter_of (left fields.entry) }
 {
-    let member = number(fields.next_field()?)?;
-    let direction = side(fields.next_field()?)?;
-    let limit = limit(fields.next_field()?)?;
-    let volume = number(fields.next_field()?)?;
+    let member = read_number(fields.next_field()?)?;
+    let direction = read_side(fields.next_field()?)?;
+    let limit = read_limit(fields.next_field()?)?;
+    let volume = read_number(fields.next_field()?)?;
     fields.is_empty().then_some(Call::Enter {
         member,
         direction,
@@ -27,13 +27,13 @@ fn enter(mut fields: Fields) -> Option<Call>
 fn alter(mut fields: Fields) -> Option<Call>
     ensures { result ≡ alter_of (left fields.entry) }
 {
-    let member = number(fields.next_field()?)?;
-    let number_held = number(fields.next_field()?)?;
-    let price = number(fields.next_field()?)?;
-    let wanted = number(fields.next_field()?)?;
+    let member = read_number(fields.next_field()?)?;
+    let number = read_number(fields.next_field()?)?;
+    let price = read_number(fields.next_field()?)?;
+    let wanted = read_number(fields.next_field()?)?;
     fields.is_empty().then_some(Call::Alter {
         member,
-        number: number_held,
+        number,
         price,
         volume: wanted,
     })
@@ -42,12 +42,11 @@ fn alter(mut fields: Fields) -> Option<Call>
 fn withdraw(mut fields: Fields) -> Option<Call>
     ensures { result ≡ withdraw_of (left fields.entry) }
 {
-    let member = number(fields.next_field()?)?;
-    let number_held = number(fields.next_field()?)?;
-    fields.is_empty().then_some(Call::Withdraw {
-        member,
-        number: number_held,
-    })
+    let member = read_number(fields.next_field()?)?;
+    let number = read_number(fields.next_field()?)?;
+    fields
+        .is_empty()
+        .then_some(Call::Withdraw { member, number })
 }
 
 fn advance(fields: Fields) -> Option<Call>
@@ -59,7 +58,7 @@ fn advance(fields: Fields) -> Option<Call>
 fn call(mut fields: Fields) -> Option<Call>
     ensures { result ≡ taking letter_of (left fields.entry) lettered_call }
 {
-    match letter(fields.next_field()?)? {
+    match read_letter(fields.next_field()?)? {
         'E' => enter(fields),
         'A' => alter(fields),
         'W' => withdraw(fields),

@@ -1,7 +1,7 @@
 use crate::answer::answer_file;
 use crate::fault::Fault;
 use crate::lines::Lines;
-use crate::number::number;
+use crate::number::read_number;
 use crate::output::OutputLine;
 use crate::reader::read_call;
 use book::answer::Answer;
@@ -14,12 +14,12 @@ use tables::queue::Queue;
 
 #[test]
 fn numbers(rt: HostRuntime) {
-    assert_eq!(rt; number(b"0"), Some(0));
-    assert_eq!(rt; number(b"999999999"), Some(999_999_999));
-    assert_eq!(rt; number(b"1000000000"), None);
-    assert_eq!(rt; number(b"07"), None);
-    assert_eq!(rt; number(b""), None);
-    assert_eq!(rt; number(b"+1"), None);
+    assert_eq!(rt; read_number(b"0"), Some(0));
+    assert_eq!(rt; read_number(b"999999999"), Some(999_999_999));
+    assert_eq!(rt; read_number(b"1000000000"), None);
+    assert_eq!(rt; read_number(b"07"), None);
+    assert_eq!(rt; read_number(b""), None);
+    assert_eq!(rt; read_number(b"+1"), None);
 }
 
 #[test]
@@ -107,28 +107,38 @@ fn lines(rt: HostRuntime) -> Result<(), Fail> {
 #[test]
 fn files(rt: HostRuntime) -> Result<(), Fail> {
     let alloc = rt.alloc();
-    let mut run = [Slip::Lapse {
+    let slip = Slip::Lapse {
         number: 0,
         volume: 0,
-    }; 4];
+    };
     let mut places = [Order::limit(0, 0, Direction::Buy, 0, 0); 4];
     let worked = answer_file(
         alloc,
         b"2\n1000\n10\n1\nN\n",
         Queue::new(&mut places),
-        &mut run,
+        vec![in alloc; slip; 4]?,
     )?;
     assert_eq!(rt; worked.as_str(), "N 2 - 0\nF 1000\n");
-    let terms = answer_file(alloc, b"2\n0\n10\n", Queue::new(&mut places), &mut run)?;
+    let terms = answer_file(
+        alloc,
+        b"2\n0\n10\n",
+        Queue::new(&mut places),
+        vec![in alloc; slip; 4]?,
+    )?;
     assert_eq!(rt; terms.as_str(), "R 1\n");
     let missing = answer_file(
         alloc,
         b"2\n1000\n10\n2\nN\n",
         Queue::new(&mut places),
-        &mut run,
+        vec![in alloc; slip; 4]?,
     )?;
     assert_eq!(rt; missing.as_str(), "N 2 - 0\nX 6\n");
-    let empty = answer_file(alloc, b"", Queue::new(&mut places), &mut run)?;
+    let empty = answer_file(
+        alloc,
+        b"",
+        Queue::new(&mut places),
+        vec![in alloc; slip; 4]?,
+    )?;
     assert_eq!(rt; empty.as_str(), "X 1\n");
     Ok(())
 }

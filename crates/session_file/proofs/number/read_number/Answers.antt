@@ -1,7 +1,7 @@
 use Rattle.std.proofs.Common.{◌≡◌, ◌∙◌, sym, rules}
 use Rattle.session_file.proofs.Numbers.{number_found, number_taken}
 use Rattle.session_file.specs.Reading.{number_of}
-use Rattle.session_file.proofs.number.number.Goals as goal
+use Rattle.session_file.proofs.number.read_number.Goals as goal
 
 pub returns-in_default-2-clause-grammar : goal.returns-in_default-2-clause-grammar
 returns-in_default-2-clause-grammar c =
