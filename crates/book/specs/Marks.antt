@@ -29,7 +29,8 @@ abbrev pub first_at : ℕ → List Order → Bool
 first_at p [] = false
 first_at p (o ∷ os) = o.price == p
 
--- right after the opening strike a mark begins, and after each other call in Open it goes on or ends
+-- right after the opening strike a mark begins, and after each enter, alter and withdraw in Open it goes on or ends; the
+-- advance out of Open does not look
 abbrev pub mark_on : Stage → Call → Bool → Bool → Bool
 mark_on PreOpen Advance old now' = now'
 mark_on Open (Enter member d limit volume) old now' = old && now'

@@ -1,4 +1,4 @@
-// The part of the day, and the one after it.
+// The part of the day, its number, and the one after it.
 ghost use Rattle.std.specs.Prelude.{◌≡◌};
 ghost use Rattle.book.specs.Rules.{next, stage_number};
 
@@ -11,7 +11,7 @@ pub enum Stage {
 }
 
 impl Stage {
-    // The next stage of the day; the last has none after it.
+    // The next stage of the day; Closed stays Closed.
     pub fn next(self) -> Stage
         ensures { result ≡ next self }
     {

@@ -1,5 +1,5 @@
 // Advancing to the next stage.
-ghost use Rattle.std.specs.Prelude.{◌≡◌, ℕ, ◌≤◌, IfOk};
+ghost use Rattle.std.specs.Prelude.{◌≡◌, ℕ, ◌≤◌};
 ghost use Rattle.book.specs.declared.call.Call.TheVariants.{Advance};
 ghost use Rattle.market.specs.Outcome.{acted, acts};
 ghost use Rattle.market.specs.Rows.{told};

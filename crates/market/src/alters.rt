@@ -1,9 +1,9 @@
 // Orders that are altered, and orders that are withdrawn.
-ghost use Rattle.std.specs.Prelude.{◌≡◌, ℕ, ◌+◌, ◌<◌, ◌≤◌, true, false, List, Some, None, Ok, length, IfOk};
+ghost use Rattle.std.specs.Prelude.{◌≡◌, ℕ, ◌+◌, ◌<◌, true, List, Some, None, length};
 ghost use Rattle.rules.specs.Side.{opposite};
 ghost use Rattle.rules.specs.declared.order.Order.{Order};
 ghost use Rattle.rules.specs.declared.terms.Terms.{Terms};
-ghost use Rattle.tables.specs.Meaning.{Contents, listed, lookup};
+ghost use Rattle.tables.specs.Meaning.{listed, lookup};
 ghost use Rattle.book.specs.declared.call.Call.TheVariants.{Alter, Withdraw};
 ghost use Rattle.book.specs.declared.slip.Slip.{Slip};
 ghost use Rattle.book.specs.Day.{is_open};

@@ -1,7 +1,7 @@
 // The rows of the refusals that look at the session or its table.
-ghost use Rattle.std.specs.Prelude.{◌≡◌, ◌≤◌, ◌+◌, length};
+ghost use Rattle.std.specs.Prelude.{◌≡◌, ◌≤◌};
 ghost use Rattle.rules.specs.Entry.{answer};
-ghost use Rattle.tables.specs.Meaning.{listed, lookup};
+ghost use Rattle.tables.specs.Meaning.{lookup};
 ghost use Rattle.book.specs.Day.{limit_row};
 ghost use Rattle.market.specs.Strikes.{orders_of};
 ghost use Rattle.market.specs.Rows.{told, closed_row, arrivals_row, side_row, run_row, strike_row, entry_rows, owned};

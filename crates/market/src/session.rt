@@ -1,5 +1,5 @@
 // The session: from start, call after call, to its end.
-ghost use Rattle.std.specs.Prelude.{◌≡◌, ◌≤◌, IfOk, length};
+ghost use Rattle.std.specs.Prelude.{◌≡◌, length};
 ghost use Rattle.book.specs.Marks.{left_by, reference_left};
 ghost use Rattle.book.specs.declared.call.Call.TheVariants.{Enter, Alter, Withdraw, Advance};
 ghost use Rattle.market.specs.Outcome.{Kept, acted, acts};

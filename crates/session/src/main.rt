@@ -12,11 +12,10 @@ use rules::order::{Direction, Order};
 use session_file::answer::answer_file;
 use session_file::lines::LONGEST;
 use std::alloc::{AllocError, Global};
-use std::io;
-use std::io::{Read, Write};
+use std::io::{self, Read, Write};
 use tables::queue::Queue;
 
-// The text that a file is answered with: that of a lawful journal of its calls.
+// The text that a file is answered with; where it says accepted terms and calls, that of a lawful journal.
 fn answer(heap: Global, file: &[u8]) -> Result<String, AllocError>
     ensures lawful { IfOk result (λ text. AnsweredLawfully record { places = 128 } 512 file.now (string_bytes text)) }
     ensures exact { IfOk result (λ text. string_bytes text ≡ answered record { places = 128 } 512 file.now) }

@@ -2,7 +2,7 @@
 ghost use Rattle.std.specs.Prelude.{◌≡◌, Some};
 ghost use Rattle.session_file.specs.Output.{answer_line, line};
 ghost use Rattle.std.specs.Fmt.{WritesOnOk};
-ghost use Rattle.session_file.specs.declared.output.OutputLine.TheVariants.{Accepted, Slipped, Refused, Broken, NextReference};
+ghost use Rattle.session_file.specs.declared.output.OutputLine.TheVariants.{Accepted, Slipped, Refused, Broken};
 
 use crate::fault::Fault;
 use book::answer::Answer;
