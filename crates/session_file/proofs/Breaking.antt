@@ -12,10 +12,10 @@ use Rattle.session_file.specs.Grammar.{Number, Line}
 use Rattle.session_file.specs.Reading.{number_of, call_of}
 use Rattle.session_file.specs.Lines.{Ahead, broken, cut_line, first_line, or_broken, ◌>>=◌, number_line, call_line, terms_section, ending}
 use Rattle.session_file.specs.Files.{Stacked}
-use Rattle.session_file.specs.Answered.{told, outcome_of, session_after, reading, calls, opened, answered}
+use Rattle.session_file.specs.Answered.{told, outcome_of, session_after, reading, calls, under, opened, answered}
 use Rattle.session_file.specs.Gathered.{said}
 use Rattle.session_file.specs.Opening.{terms_from}
-use Rattle.session_file.specs.Broken.{Without, NoNumber, BrokenTerms, BrokenNext, CallsThen, fault_text, under, BrokenInTurn}
+use Rattle.session_file.specs.Broken.{Without, NoNumber, BrokenTerms, BrokenNext, CallsThen, fault_text, BrokenInTurn}
 use Rattle.session_file.proofs.Begun.{numbers_read, calls_read}
 use Rattle.session_file.proofs.Calls.{call_taken}
 use Rattle.session_file.proofs.Whole.{behind, line_read, line_free, number_read, terms_read}

@@ -50,10 +50,14 @@ module _ (t : Terms) (room : ℕ) where
   calls (suc n) s ahead =
       reading (call_line ahead) (λ c. told (result (outcome_of s c.0)) ++ calls n (session_after s c.0) c.1)
 
--- the section of the calls; refused terms end the text
+-- refused terms end the text
+abbrev pub under : Result Terms ℕ → (Terms → List ℕ) → List ℕ
+under (Err n) text = ended (refusal_line n)
+under (Ok t) text = text t
+
+-- the section of the calls
 abbrev pub opened : Capacity → ℕ → Result Terms ℕ → Ahead → List ℕ
-opened cap room (Err n) ahead = ended (refusal_line n)
-opened cap room (Ok t) ahead = reading (number_line ahead) (λ count. calls t room count.0 (begun cap) count.1)
+opened cap room terms ahead = under terms (λ t. reading (number_line ahead) (λ count. calls t room count.0 (begun cap) count.1))
 
 abbrev pub sections : Capacity → ℕ → Ahead → List ℕ
 sections cap room ahead = reading (terms_section ahead) (λ s. opened cap room (terms_from s.0.reference s.0.block) s.1)

@@ -1,15 +1,14 @@
 -- A file that breaks its form, in the words of the grammar of its lines, and the text that it is answered with.
-use Rattle.std.specs.Prelude.{◌≡◌, ℕ, zero, suc, ◌+◌, ◌-◌, ◌<◌, ◌≤◌, List, [], ◌∷◌, ◌++◌, length, Result, Ok, Err}
-use Rattle.rules.specs.declared.terms.Terms.{Terms}
+use Rattle.std.specs.Prelude.{◌≡◌, ℕ, zero, suc, ◌+◌, ◌-◌, ◌<◌, ◌≤◌, List, [], ◌∷◌, ◌++◌, length}
 use Rattle.tables.specs.Meaning.{Capacity}
 use Rattle.book.specs.declared.call.Call.{Call}
 use Rattle.book.specs.Marks.{begun}
 use Rattle.session_file.specs.Grammar.{Number, Line}
 use Rattle.session_file.specs.Files.{◌above◌}
-use Rattle.session_file.specs.Answered.{ended}
+use Rattle.session_file.specs.Answered.{ended, under}
 use Rattle.session_file.specs.Gathered.{said}
 use Rattle.session_file.specs.Opening.{terms_from}
-use Rattle.session_file.specs.Output.{refusal_line, fault_line}
+use Rattle.session_file.specs.Output.{fault_line}
 
 -- the text does not begin with a line as First says, with its byte 10
 abbrev pub Without : (List ℕ → Type 0) → List ℕ → Type 0
@@ -46,11 +45,6 @@ BrokenCalls reference block n calls =
 
 abbrev pub fault_text : ℕ → List ℕ
 fault_text line = ended (fault_line line)
-
--- refused terms end the text
-abbrev pub under : Result Terms ℕ → (Terms → List ℕ) → List ℕ
-under (Err n) text = ended (refusal_line n)
-under (Ok t) text = text t
 
 -- a broken form is answered by its line, behind the answers to the calls before it; a file that is too long by line 0
 pub record BrokenInTurn (cap : Capacity) (room : ℕ) (file text : List ℕ) : Type 0 where

@@ -1,15 +1,14 @@
 -- What a whole file says, in the words of the grammar of its lines; and the text that it is answered with, call after
 -- call.
-use Rattle.std.specs.Prelude.{◌≡◌, ℕ, List, [], ◌∷◌, ◌++◌, ◌≤◌, length, Result, Ok, Err}
+use Rattle.std.specs.Prelude.{◌≡◌, ℕ, List, [], ◌∷◌, ◌++◌, ◌≤◌, length, Result}
 use Rattle.rules.specs.declared.terms.Terms.{Terms}
 use Rattle.tables.specs.Meaning.{Capacity}
 use Rattle.book.specs.declared.call.Call.{Call}
 use Rattle.book.specs.Marks.{begun}
 use Rattle.session_file.specs.Grammar.{Number, Line}
-use Rattle.session_file.specs.Answered.{ended, closing}
+use Rattle.session_file.specs.Answered.{closing, under}
 use Rattle.session_file.specs.Gathered.{said, after_all}
 use Rattle.session_file.specs.Opening.{terms_from}
-use Rattle.session_file.specs.Output.{refusal_line}
 
 -- a line, its byte 10, and what follows
 pub record Stacked (First Next : List ℕ → Type 0) (text : List ℕ) : Type 0 where
@@ -32,10 +31,10 @@ abbrev pub File : ℕ → ℕ → List Call → List ℕ → Type 0
 File reference block calls =
     Number 2 above Number reference above Number block above Number (length calls) above CallLines calls
 
--- the text of these calls in turn; refused terms end it
+-- the text of these calls in turn
 abbrev pub text_of : Capacity → ℕ → Result Terms ℕ → List Call → List ℕ
-text_of cap room (Err n) calls = ended (refusal_line n)
-text_of cap room (Ok t) calls = said t room (begun cap) calls ++ closing t room (after_all t room (begun cap) calls)
+text_of cap room terms calls =
+    under terms (λ t. said t room (begun cap) calls ++ closing t room (after_all t room (begun cap) calls))
 
 -- a file that is not too long, and says terms and calls, is answered call after call
 abbrev pub AnsweredInTurn : Capacity → ℕ → List ℕ → List ℕ → Type 0
