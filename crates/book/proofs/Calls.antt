@@ -1,6 +1,6 @@
 -- Call by call: withdraw, enter and alter.
-use Rattle.std.proofs.Common.{◌&&◌, is_some, ◌≡◌, ℕ, suc, ◌-◌, ◌<◌, ◌≤◌, Bool, true, false, cond, not, ◌||◌, eqb, ltb, leb, List, [], ◌∷◌, ◌++◌, length, Some, None, Option, sym, refl, ap, ◌∙◌, subst, inl, inr, ⊎_elim, arith}
-use Rattle.std.proofs.lemmas.Bool.{cases_Bool, cond_both, cond-false, cond-true, cases_eq, eqb-true, eqb-false, ne_eqb, eq-eqb, leb-false, and_parts, and_cases, not-false, both_ways}
+use Rattle.std.proofs.Common.{◌&&◌, is_some, ◌≡◌, ℕ, suc, ◌-◌, ◌<◌, ◌≤◌, Bool, true, false, cond, not, ◌||◌, eqb, ltb, List, [], ◌∷◌, ◌++◌, length, Some, None, Option, sym, refl, ap, ◌∙◌, subst, inl, inr, ⊎_elim, arith, append-nil}
+use Rattle.std.proofs.lemmas.Bool.{cases_Bool, cond_both, cond-false, cond-true, cases_eq, eqb-true, eqb-false, ne_eqb, eq-eqb, and_parts, and_cases, not-false, both_ways}
 use Rattle.std.proofs.lemmas.Bool.Decides.{nat_tests}
 use Rattle.rules.specs.declared.order.Direction.{Direction}
 use Rattle.rules.specs.declared.order.Direction.TheVariants.{Buy, Sell}
@@ -21,11 +21,13 @@ use Rattle.rules.specs.Side.{opposite, willing}
 use Rattle.tables.specs.Listing.{insert, with_volume, without}
 use Rattle.book.specs.Ledger.{Ledger, Live, put, balance, opening, renews, renew, keep, rewritten, alter_account, feed, post_all, Along, traded}
 use Rattle.rules.specs.Book.{Book, side}
-use Rattle.rules.specs.Entry.{member_row, volume_row, price_row}
-use Rattle.tables.specs.Meaning.{Contents, held, lookup, listed, takes, added, removed, holding}
+use Rattle.rules.specs.Entry.{volume_row, price_row}
+use Rattle.tables.specs.Meaning.{Contents, held, lookup, takes, added, removed, holding}
 use Rattle.tables.proofs.Numbers.{without_none}
 use Rattle.tables.proofs.Ranking.{length-insert}
-use Rattle.book.specs.Day.{Day, limit_price, entering, moves, alter_tally, altered, Outcome, refused_by, done, is_open, is_closed, by_row, limit_row, refuse, owned, withdraw, enter, alter, full, short_run, step, Reply, arrive, queue, placed, dealt, Swept, sweep}
+use Rattle.book.specs.Rows.{is_open, is_closed, limit_row}
+use Rattle.book.proofs.Gate.{Enters, Alters}
+use Rattle.book.specs.Day.{Day, limit_price, entering, moves, alter_tally, altered, Outcome, refused_by, done, done_by, withdraw, enter, alter, Reply, Arrived, let_in, settled, queued, entered, trades_again, placed, dealt, Swept, sweep}
 use Rattle.book.specs.Law.{Mode, continuous, mode, dealing, price_of, fed, due, SlipRight, InTurn, FixingRight, Entering, Settled, Shown, Upheld}
 use Rattle.book.proofs.Ranks.{InRank, without_in, insert_in, in_insert, none_numbered}
 use Rattle.book.proofs.Accounts.{put_same, put_other, live_same, Off, Dead, Besides, besides_without, besides_none, besides_close, besides_insert, down, down_off, down_at, down_live, down_against, not_both}
@@ -71,7 +73,7 @@ module _ (t : Terms) (L : Ledger) (tab : Contents) (inv : Inv t L tab) where
       (member : ℕ) (o : Order) →
       Live o.direction L o →
       held o.number tab.book ≡ true →
-      Good t L (Withdraw member o.number) (withdraw (day_at L tab) o)
+      Good t L (Withdraw member o.number) (done_by (withdraw (day_at L tab) o))
   withdraw_kept member o l h =
       let d : Direction = o.direction in
       let n : ℕ = o.number in
@@ -100,33 +102,11 @@ module _ (t : Terms) (L : Ledger) (tab : Contents) (inv : Inv t L tab) where
         fits = fits_sided tab d own against (omega (arith, length-without n old, inv.fits d)) (inv.fits (opposite d));
       })
 
-  -- the tests of a call, one by one
-  pub tested : (c : Call) (b : Bool) (n : ℕ) (out : Outcome) → (b ≡ false → Good t L c out) → Good t L c (refuse b n out)
-  tested c b n out h = cond_both _ _ _ (Good t L c) (λ _. tt) h
-
-  pub passed : (c : Call) (row : Option ℕ) (out : Outcome) → (row ≡ None → Good t L c out) → Good t L c (by_row row out)
-  passed c None out h = h refl
-  passed c (Some n) out h = tt
-
-  pub owned_good :
-      (member n : ℕ) (c : Call) (go : Order → Outcome) →
-      ((o : Order) → Live o.direction L o → o.number ≡ n → held o.number tab.book ≡ true → Good t L c (go o)) →
-      Good t L c (owned member (lookup n tab.book) go)
-  owned_good member n c go h = on (lookup n tab.book) refl
-    where
-      on : (r : Option Order) → lookup n tab.book ≡ r → Good t L c (owned member r go)
-      on None e = tt
-      on (Some o) e =
-          let f = found_live L tab.book inv.shown n o e in
-          let there : held o.number tab.book ≡ true = ap (λ k. held k tab.book) f.1 ∙ ap is_some e in
-          tested c (not (eqb member o.member)) 8 (go o) (λ _. h o f.0 f.1 there)
-
-  pub withdraw_good : (member n room : ℕ) → Good t L (Withdraw member n) (step t (day_at L tab) (Withdraw member n) room)
-  withdraw_good member n room =
-      tested (Withdraw member n) (is_closed L.stage) 3 _ (λ _.
-      passed (Withdraw member n) (member_row member) _ (λ _.
-      owned_good member n (Withdraw member n) (withdraw (day_at L tab))
-      (λ o l e h. subst (λ i. Good t L (Withdraw member i) (withdraw (day_at L tab) o)) e (withdraw_kept member o l h))))
+  pub withdraw_good : (member n : ℕ) (o : Order) → lookup n tab.book ≡ Some o → Good t L (Withdraw member n) (done_by (withdraw (day_at L tab) o))
+  withdraw_good member n o e =
+      let f = found_live L tab.book inv.shown n o e in
+      let there : held o.number tab.book ≡ true = ap (λ k. held k tab.book) f.1 ∙ ap is_some e in
+      subst (λ i. Good t L (Withdraw member i) (done_by (withdraw (day_at L tab) o))) f.1 (withdraw_kept member o f.0 there)
 
 -- An order that enters in Open ---------------------------------------------------------------------------------------------
 
@@ -163,6 +143,49 @@ abbrev pub Due : Ledger → Call → Ledger → ℕ → Reply → Type 0
 Due L c M n reply =
     (m : Mode) (slips : List Slip) (sum held : ℕ) → sum ≡ traded slips → held ≡ balance ((post_all slips M).accounts n) →
     reply sum held (length slips) ≡ due c m L slips (post_all slips M)
+
+-- the order after its sweep, by whether it is a market order
+settled_as :
+    (e : Order) (T : Contents) (s : Swept) →
+    settled e T s ≡
+    cond e.market
+    (record {
+      slips = s.slips ++ cond (eqb s.left 0) [] (Lapse e.number s.left ∷ []);
+      traded = e.volume - s.left;
+      held = 0;
+      table = dealt e.direction s.rest T;
+    })
+    (record { slips = s.slips; traded = e.volume - s.left; held = s.left; table = placed e s.left (dealt e.direction s.rest T) })
+settled_as e T s = go e.market (eqb s.left 0)
+  where
+    go :
+        (m z : Bool) →
+        ◌≡◌ {A = Arrived}
+        (record {
+          slips = s.slips ++ cond (m && not z) (Lapse e.number s.left ∷ []) [];
+          traded = e.volume - s.left;
+          held = cond m 0 s.left;
+          table = cond m (dealt e.direction s.rest T) (placed e s.left (dealt e.direction s.rest T));
+        })
+        (cond m
+        (record {
+          slips = s.slips ++ cond z [] (Lapse e.number s.left ∷ []);
+          traded = e.volume - s.left;
+          held = 0;
+          table = dealt e.direction s.rest T;
+        })
+        (record { slips = s.slips; traded = e.volume - s.left; held = s.left; table = placed e s.left (dealt e.direction s.rest T) }))
+    go true true = refl
+    go true false = refl
+    go false z =
+        ap
+        (λ (l : List Slip). record {
+          slips = l;
+          traded = e.volume - s.left;
+          held = s.left;
+          table = placed e s.left (dealt e.direction s.rest T);
+        })
+        (append-nil s.slips)
 
 module _ (t : Terms) (L : Ledger) (c : Call) (M : Ledger) (tab : Contents) (e : Order) (own opp : List Order)
     (same : M.stage ≡ L.stage) (dealing_on : (a : Answer) → mode L.stage c (price_of a) ≡ continuous)
@@ -373,7 +396,7 @@ module _ (t : Terms) (L : Ledger) (c : Call) (M : Ledger) (tab : Contents) (e : 
       M.accounts e.number ≡ Some e →
       Listed e.direction M (insert (before e.direction) e own) →
       Listed (opposite e.direction) M opp →
-      GoodAt t L c M (arrive L.stage M.tally e (table_of tab e.direction own opp) reply (sweep e.direction e.number e.price opp e.volume))
+      GoodAt t L c M (done_by (let_in L.stage M.tally reply (settled e (table_of tab e.direction own opp) (sweep e.direction e.number e.price opp e.volume))))
   arrive_kept some ac lo la =
       let s : Swept = sweep d e.number e.price opp e.volume in
       let start : Listed d M (stand d e e.volume own) =
@@ -382,8 +405,9 @@ module _ (t : Terms) (L : Ledger) (c : Call) (M : Ledger) (tab : Contents) (e : 
       let sw : SweptRight d e own M opp e.volume s =
       sweep_right d e own opp e.volume M start la ac last clear
       in
-      cond_both _ _ _
-      (GoodAt t L c M)
+      subst (λ (a : Arrived). GoodAt t L c M (done_by (let_in L.stage M.tally reply a))) (sym (settled_as e (table_of tab e.direction own opp) s))
+      (cond_both _ _ _
+      (λ (a : Arrived). GoodAt t L c M (done_by (let_in L.stage M.tally reply a)))
       (λ mk.
       let more : List Slip = s.slips ++ cond (eqb s.left 0) [] (Lapse e.number s.left ∷ []) in
       subst
@@ -392,7 +416,7 @@ module _ (t : Terms) (L : Ledger) (c : Call) (M : Ledger) (tab : Contents) (e : 
       (λ mk.
       subst
       (λ (T : Contents). Kept t L c (reply (e.volume - s.left) s.left (length s.slips)) M s.slips (record { stage = L.stage; tally = M.tally; table = T }))
-      (sym (placed_is s sw)) (limit_kept s sw mk))
+      (sym (placed_is s sw)) (limit_kept s sw mk)))
 
 -- An order that enters where nothing trades -----------------------------------------------------------------------------------
 
@@ -412,7 +436,7 @@ pub queue_kept :
     length opp ≤ tab.capacity.places →
     (reply : Reply) →
     Due L c M e.number reply →
-    GoodAt t L c M (queue L.stage M.tally e (table_of tab e.direction own opp) reply)
+    GoodAt t L c M (done_by (let_in L.stage M.tally reply (queued e (table_of tab e.direction own opp))))
 queue_kept t L c M tab e own opp same no-fixing opened ac lo la gap f g taken room opp-fits reply owed =
     let d : Direction = e.direction in
     subst
@@ -517,9 +541,9 @@ module _ (t : Terms) (L : Ledger) (tab : Contents) (inv : Inv t L tab) where
   none_next d x l q = let b : x.number ≤ L.tally = (inv.opened x.number x l.account).below in omega arith
 
   pub enter_good :
-      (member : ℕ) (d : Direction) (limit : Option ℕ) (volume room : ℕ) →
-      Good t L (Enter member d limit volume) (step t (day_at L tab) (Enter member d limit volume) room)
-  enter_good member d limit volume room =
+      (member : ℕ) (d : Direction) (limit : Option ℕ) (volume room : ℕ) → Enters t L.stage L.tally tab d limit volume room →
+      Good t L (Enter member d limit volume) (done_by (enter (day_at L tab) (entering t (suc L.tally) member d limit volume)))
+  enter_good member d limit volume room k =
       let c : Call = Enter member d limit volume in
       let n : ℕ = suc L.tally in
       let e : Order = entering t n member d limit volume in
@@ -528,23 +552,16 @@ module _ (t : Terms) (L : Ledger) (tab : Contents) (inv : Inv t L tab) where
       let opp : List Order = side (opposite d) tab.book in
       let T : Contents = table_of tab d own opp in
       let whole : T ≡ tab = ap (holding tab) (sided_same d tab.book) in
-      let shut = tested t L tab inv in
-      let row = passed t L tab inv in
-      shut c (is_closed L.stage) 3 _ (λ not-closed.
-      row c (member_row member) _ (λ _.
-      row c (volume_row t.block volume) _ (λ good-volume.
-      row c (limit_row t limit) _ (λ inside.
-      shut c (leb 1000000 L.tally) 10 _ (λ _.
-      shut c (full tab d) 11 _ (λ not-full.
-      shut c (short_run (day_at L tab) room d) 12 _ (λ _.
-      let place : length own < tab.capacity.places = leb-false tab.capacity.places (length own) not-full in
+      let not-closed : is_closed L.stage ≡ false = k.entry.closed in
+      let inside = k.entry.inside in
+      let place : length own < tab.capacity.places = k.place in
       let taken : takes T e ≡ true =
       takes_sided tab e own opp place
       (λ x m. none_next d x ((listing (inv.shown.sides d)).sound x m))
       (λ x m. none_next (opposite d) x ((listing (inv.shown.sides (opposite d))).sound x m))
       in
       let off : Off n L M = λ m k. put_other n (Some e) L.accounts m k in
-      let some : 0 < volume = some_volume t.block volume good-volume in
+      let some : 0 < volume = some_volume t.block volume k.entry.whole in
       let l : Live d M e = record { account = put_same n (Some e) L.accounts; balance = some; side = refl } in
       let lo : Listed d M (insert (before d) e own) = put_new M d e off l (none_next (opposite d)) (none_next d) in
       let la : Listed (opposite d) M opp = put_against M d e off l (none_next (opposite d)) in
@@ -559,24 +576,23 @@ module _ (t : Terms) (L : Ledger) (tab : Contents) (inv : Inv t L tab) where
       let owed : Due L c M n (Entered n) = λ m slips sum kept p q i. Entered n (p i) (q i) (length slips) in
       good_from t L c M
       (λ a i. record { stage = L.stage; tally = n; accounts = put n (Some (opening_is t n member d limit volume i)) L.accounts })
-      (enter (day_at L tab) e)
-      (subst (λ (X : Contents). GoodAt t L c M (enter (day_at L X) e)) whole
+      (done_by (enter (day_at L tab) e))
+      (subst (λ (X : Contents). GoodAt t L c M (done_by (enter (day_at L X) e))) whole
       (cond_both _ _ _
-      (GoodAt t L c M)
+      (λ (a : Arrived). GoodAt t L c M (done_by (let_in L.stage n (Entered n) a)))
       (λ is-o.
       let trading : L.stage ≡ Open = is_open_true L.stage is-o in
-      let settled : Settled L.stage = settled_open L.stage trading in
-      subst (λ xs. GoodAt t L c M (arrive L.stage n e T (Entered n) (sweep d n e.price xs volume))) (sym (side_against d own opp))
+      let calm : Settled L.stage = settled_open L.stage trading in
+      subst (λ xs. GoodAt t L c M (done_by (let_in L.stage n (Entered n) (settled e T (sweep d n e.price xs volume))))) (sym (side_against d own opp))
       (arrive_kept t L c M tab e own opp refl (λ a. ap dealing trading) refl op (listing (inv.shown.sides d)).sorted
       (λ x m. none_next d x ((listing (inv.shown.sides d)).sound x m))
-      (apart_of L tab.book inv.shown settled d) (limit_of L tab.book inv.shown settled d)
-      (limit_of L tab.book inv.shown settled (opposite d)) place (inv.fits (opposite d)) (Entered n) owed some ac lo la))
+      (apart_of L tab.book inv.shown calm d) (limit_of L tab.book inv.shown calm d)
+      (limit_of L tab.book inv.shown calm (opposite d)) place (inv.fits (opposite d)) (Entered n) owed some ac lo la))
       (λ not-o.
       queue_kept t L c M tab e own opp refl (λ a. dealing_none t L L.stage []) op ac lo la
       (λ k. absurd (unsettled L.stage not-o not-closed k)) (λ k. absurd (unsettled L.stage not-o not-closed k))
       (λ k. absurd (unsettled L.stage not-o not-closed k)) taken place
       (inv.fits (opposite d)) (Entered n) owed)))
-      )))))))
 
   -- Alter ------------------------------------------------------------------------------------------------------------------------
 
@@ -588,7 +604,7 @@ module _ (t : Terms) (L : Ledger) (tab : Contents) (inv : Inv t L tab) where
       0 < volume →
       limit_row t (Some price) ≡ None →
       o.market ≡ false →
-      Good t L (Alter member o.number price volume) (alter (day_at L tab) price volume o)
+      Good t L (Alter member o.number price volume) (done_by (alter (day_at L tab) price volume o))
   alter_kept member price volume o l there not-closed some inside limit =
       let c : Call = Alter member o.number price volume in
       let n : ℕ = o.number in
@@ -629,28 +645,26 @@ module _ (t : Terms) (L : Ledger) (tab : Contents) (inv : Inv t L tab) where
       let ac : M.accounts n ≡ Some e = put_same n (Some e) L.accounts in
       let owed : Due L c M n Altered = λ m slips sum kept p q i. Altered (p i) (q i) (length slips) in
       good_from t L c M (λ a. alter_is n price volume o L ∙ sym (ap (λ x. alter_account n price volume x L) l.account))
-      (alter (day_at L tab) price volume o)
+      (done_by (alter (day_at L tab) price volume o))
       (subst
       (λ (X : Contents).
       GoodAt t L c M
-      (cond (is_open L.stage && not (eqb price o.price))
-      (arrive L.stage tally e X Altered (sweep d n price (listed (opposite d) X) volume))
-      (queue L.stage tally e X Altered)))
+      (done_by (let_in L.stage tally Altered (entered (trades_again L.stage price o) e X))))
       (sym (removed_is t L tab inv o l there))
       (cond_both _ _ _
-      (GoodAt t L c M)
+      (λ (a : Arrived). GoodAt t L c M (done_by (let_in L.stage tally Altered a)))
       (λ h.
       let both = and_parts (is_open L.stage) (not (eqb price o.price)) h in
       let trading : L.stage ≡ Open = is_open_true L.stage both.0 in
-      let settled : Settled L.stage = settled_open L.stage trading in
+      let calm : Settled L.stage = settled_open L.stage trading in
       let moved : moves price volume o ≡ true = ap (λ b. b || ltb o.volume volume) both.1 in
       let last : Entering M e =
       ap (λ b. cond b (suc L.tally) o.arrival) moved ∙ sym (ap (λ b. cond b (suc L.tally) L.tally) moved)
       in
-      subst (λ xs. GoodAt t L c M (arrive L.stage tally e T Altered (sweep d n price xs volume))) (sym (side_against d own opp))
+      subst (λ xs. GoodAt t L c M (done_by (let_in L.stage tally Altered (settled e T (sweep d n price xs volume))))) (sym (side_against d own opp))
       (arrive_kept t L c M tab e own opp refl (λ a. ap dealing trading) last op
       (besides_without n d L old (listing (inv.shown.sides d))).sorted fresh
-      (clear settled) (limits settled) (limit_of L tab.book inv.shown settled (opposite d)) place (inv.fits (opposite d))
+      (clear calm) (limits calm) (limit_of L tab.book inv.shown calm (opposite d)) place (inv.fits (opposite d))
       Altered owed some ac lo la))
       (λ h.
       queue_kept t L c M tab e own opp refl (λ a. dealing_none t L L.stage []) op ac lo la
@@ -669,20 +683,10 @@ module _ (t : Terms) (L : Ledger) (tab : Contents) (inv : Inv t L tab) where
       (λ k. limit_of L tab.book inv.shown k (opposite d)) taken place (inv.fits (opposite d)) Altered owed)))
 
   pub alter_good :
-      (member n price volume room : ℕ) →
-      Good t L (Alter member n price volume) (step t (day_at L tab) (Alter member n price volume) room)
-  alter_good member n price volume room =
-      let c : Call = Alter member n price volume in
-      let shut = tested t L tab inv in
-      let row = passed t L tab inv in
-      shut c (is_closed L.stage) 3 _ (λ not-closed.
-      row c (member_row member) _ (λ _.
-      row c (volume_row t.block volume) _ (λ good-volume.
-      row c (limit_row t (Some price)) _ (λ inside.
-      owned_good t L tab inv member n c _
-      (λ o l e there.
-      shut c o.market 9 _ (λ limit.
-      shut c (leb 1000000 L.tally) 10 _ (λ _.
-      shut c (short_run (day_at L tab) room o.direction) 12 _ (λ _.
-      subst (λ i. Good t L (Alter member i price volume) (alter (day_at L tab) price volume o)) e
-      (alter_kept member price volume o l there not-closed (some_volume t.block volume good-volume) inside limit)))))))))
+      (member n price volume room : ℕ) (o : Order) → Alters t L.stage L.tally tab n price volume room o →
+      Good t L (Alter member n price volume) (done_by (alter (day_at L tab) price volume o))
+  alter_good member n price volume room o k =
+      let f = found_live L tab.book inv.shown n o k.found in
+      let there : held o.number tab.book ≡ true = ap (λ k. held k tab.book) f.1 ∙ ap is_some k.found in
+      subst (λ i. Good t L (Alter member i price volume) (done_by (alter (day_at L tab) price volume o))) f.1
+      (alter_kept member price volume o f.0 there k.entry.closed (some_volume t.block volume k.entry.whole) k.entry.inside k.limit)

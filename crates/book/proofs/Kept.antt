@@ -20,7 +20,8 @@ use Rattle.std.specs.Option.{option_or}
 use Rattle.rules.specs.Book.{Book, side}
 use Rattle.tables.specs.Listing.{numbered}
 use Rattle.tables.specs.Meaning.{Contents, Fits, lookup}
-use Rattle.book.specs.Day.{Day, Outcome, refused_by, done, is_open, is_closed}
+use Rattle.book.specs.Rows.{is_open, is_closed}
+use Rattle.book.specs.Day.{Day, Outcome, refused_by, done}
 use Rattle.book.proofs.Sided.{sided}
 use Rattle.book.specs.Law.{mode, price_of, fed, Settled, Shown, Upheld}
 use Rattle.book.proofs.Accounts.{put_same, put_other}

@@ -1,5 +1,6 @@
 -- Advance, and the law.
-use Rattle.std.proofs.Common.{◌≡◌, ℕ, ◌≤◌, List, [], ◌∷◌, ◌++◌, length, Some, None, Option, sym, refl, ap, ◌∙◌, subst, arith}
+use Rattle.std.proofs.Common.{◌≡◌, ℕ, ◌≤◌, List, [], ◌∷◌, ◌++◌, length, Some, None, Option, sym, refl, ap, ◌∙◌, subst, arith, true, false}
+use Rattle.std.proofs.lemmas.Bool.{cond-true, cond-false, both_ways}
 use Rattle.rules.specs.declared.order.Direction.{Direction}
 use Rattle.rules.specs.declared.order.Direction.TheVariants.{Buy, Sell}
 use Rattle.book.specs.declared.stage.Stage.{Stage}
@@ -8,14 +9,16 @@ use Rattle.rules.specs.declared.order.Order.{Order}
 use Rattle.rules.specs.declared.terms.Terms.{Terms}
 use Rattle.book.specs.declared.slip.Slip.{Slip}
 use Rattle.book.specs.declared.call.Call.{Call}
-use Rattle.book.specs.declared.call.Call.TheVariants.{Enter, Alter, Withdraw, Advance}
+use Rattle.book.specs.declared.call.Call.TheVariants.{Advance}
 use Rattle.book.specs.declared.answer.Answer.{Answer}
 use Rattle.book.specs.declared.answer.Answer.TheVariants.{Advanced}
 use Rattle.book.specs.Rules.{next}
 use Rattle.rules.specs.Book.{side}
 use Rattle.tables.specs.Meaning.{Capacity, Contents, Fits, book_of, empty}
 use Rattle.book.specs.Ledger.{Ledger, following, fresh, Live, Uncrossed, live_book, at_stage, post_all, traded}
-use Rattle.book.specs.Day.{refused_by, done, Day, new, turnover, Outcome, step, advance, short_strike, strike, fixing_price, match_at, Paired, lapses, limits}
+use Rattle.book.specs.Rows.{is_closed, strikes}
+use Rattle.book.proofs.Gate.{of_step}
+use Rattle.book.specs.Day.{refused_by, done, Day, new, turnover, Outcome, step, done_by, advance, pass_on, strike, fixing_price, match_at, Paired, lapses, limits}
 use Rattle.book.specs.Law.{fixing_at, advancing, SlipRight, GreatestFixing, PriceRight, Settled, Shown, Upheld, Try, book_keeping, ledger, Lawful, Law}
 use Rattle.book.specs.Model.{moved, result, day_after, model}
 use Rattle.book.proofs.Members.{listing, listed, Member, Exactly}
@@ -24,7 +27,7 @@ use Rattle.book.proofs.Trades.{Listed}
 use Rattle.book.proofs.Accounts.{not_both}
 use Rattle.book.proofs.Sided.{fits_sided}
 use Rattle.book.proofs.Kept.{sides_of, Opened, Inv, day_at, Good, limit_live, post_stage, post_tally, post_append, along_append, opened_post}
-use Rattle.book.proofs.Calls.{tested, withdraw_good, enter_good, alter_good}
+use Rattle.book.proofs.Calls.{withdraw_good, enter_good, alter_good}
 use Rattle.book.proofs.Strike.{PairedRight, match_right, Limited, side_lapses, limits_limit, turnover-traded, uncrossed_lapses, traded_append, traded-lapses}
 use Rattle.rules.specs.Allotment.{Allotment, Idle}
 use Rattle.rules.specs.Curve.{tradable, surplus}
@@ -129,7 +132,7 @@ module _ (t : Terms) (L : Ledger) (tab : Contents) (inv : Inv t L tab) where
       }
 
   strike_kept :
-      ((price : Option ℕ) → advancing L.stage price ≡ fixing_at price) → Good t L Advance (strike t (day_at L tab))
+      ((price : Option ℕ) → advancing L.stage price ≡ fixing_at price) → Good t L Advance (done_by (strike t (day_at L tab)))
   unfolding slips
   strike_kept st =
       let price : Option ℕ = fixing_price t tab.book in
@@ -190,24 +193,19 @@ module _ (t : Terms) (L : Ledger) (tab : Contents) (inv : Inv t L tab) where
 
 -- Each call, each history -------------------------------------------------------------------------------------------------------
 
-pub advance_good :
-    (t : Terms) (s : Stage) (L : Ledger) → L.stage ≡ s →
-    (tab : Contents) → Inv t L tab → (room : ℕ) →
-    Good t L Advance (advance t (day_at L tab) room s)
-advance_good t PreOpen L e tab inv room =
-    tested t L tab inv Advance (short_strike (day_at L tab) room) 12 (strike t (day_at L tab))
-    (λ _. strike_kept t L tab inv (λ price. ap (λ s. advancing s price) e))
-advance_good t Open L e tab inv room =
+-- with no strike only the stage moves
+passed_on : (t : Terms) (L : Ledger) → L.stage ≡ Open → (tab : Contents) → Inv t L tab → Good t L Advance (done_by (pass_on (day_at L tab)))
+passed_on t L e tab inv =
     let M : Ledger = at_stage (following L.stage) L in
     let at : following L.stage ≡ PreClose = ap following e in
-    let a : Answer = Advanced PreClose None 0 0 in
+    let a : Answer = Advanced (next L.stage) None 0 0 in
     record {
       upheld =
           subst (λ m. Upheld t L Advance a m M [] tab.book) (sym (ap (λ s. advancing s None) e))
           (record {
             each = tt;
             fixing = tt;
-            answer = ap (λ s. Advanced s None 0 0) (sym at);
+            answer = ap (λ s. Advanced s None 0 0) (next_is L.stage);
             shown =
                 record {
                   sides = λ d. listed (listed_as d L M refl (side d tab.book) (listing (inv.shown.sides d)));
@@ -216,22 +214,38 @@ advance_good t Open L e tab inv room =
                 };
           });
       opened = inv.opened;
-      stage = sym at;
+      stage = next_is L.stage;
       tally = refl;
       fits = inv.fits;
     }
-advance_good t PreClose L e tab inv room =
-    tested t L tab inv Advance (short_strike (day_at L tab) room) 12 (strike t (day_at L tab))
-    (λ _. strike_kept t L tab inv (λ price. ap (λ s. advancing s price) e))
-advance_good t Closed L e tab inv room = tt
+
+advance_good : (t : Terms) (L : Ledger) (tab : Contents) → Inv t L tab → is_closed L.stage ≡ false → Good t L Advance (done_by (advance t (day_at L tab)))
+advance_good t L tab inv not-closed = on L.stage refl not-closed
+  where
+    struck_on : (s : Stage) → L.stage ≡ s → strikes s ≡ true → ((price : Option ℕ) → advancing s price ≡ fixing_at price) → Good t L Advance (done_by (advance t (day_at L tab)))
+    struck_on s e h st =
+        subst (λ m. Good t L Advance (done_by m)) (sym (cond-true (strikes L.stage) _ _ (ap strikes e ∙ h)))
+        (strike_kept t L tab inv (λ price. ap (λ s. advancing s price) e ∙ st price))
+
+    on : (s : Stage) → L.stage ≡ s → is_closed L.stage ≡ false → Good t L Advance (done_by (advance t (day_at L tab)))
+    on PreOpen e h = struck_on PreOpen e refl (λ price. refl)
+    on Open e h =
+        subst (λ m. Good t L Advance (done_by m)) (sym (cond-false (strikes L.stage) _ _ (ap strikes e))) (passed_on t L e tab inv)
+    on PreClose e h = struck_on PreClose e refl (λ price. refl)
+    on Closed e h = absurd (both_ways (is_closed L.stage) h (ap is_closed e))
 
 pub step_good :
     (t : Terms) (L : Ledger) (tab : Contents) → Inv t L tab → (c : Call) (room : ℕ) →
     Good t L c (step t (day_at L tab) c room)
-step_good t L tab inv (Enter member d limit volume) room = enter_good t L tab inv member d limit volume room
-step_good t L tab inv (Alter member n price volume) room = alter_good t L tab inv member n price volume room
-step_good t L tab inv (Withdraw member n) room = withdraw_good t L tab inv member n room
-step_good t L tab inv Advance room = advance_good t L.stage L refl tab inv room
+step_good t L tab inv c room =
+    of_step t (day_at L tab) room (Good t L)
+    (record {
+      refused = λ c n. tt;
+      entered = λ member d limit volume k. enter_good t L tab inv member d limit volume room k;
+      altered = λ member n price volume o k. alter_good t L tab inv member n price volume room o k;
+      withdrawn = λ member n o e. withdraw_good t L tab inv member n o e;
+      advanced = λ k. advance_good t L tab inv k.closed;
+    }) c
 
 -- the session and its ledger agree
 pub record Agrees (t : Terms) (L : Ledger) (day : Day) : Type 0 where

@@ -1,4 +1,5 @@
 mod Members
+pub mod Gate
 mod Ranks
 pub mod Sided
 mod Accounts

@@ -1,6 +1,5 @@
 -- The next number is never held.
-use Rattle.std.proofs.Common.{subst, ℕ, ◌≤◌, ◌≡◌, suc, sym, inl, inr, nat_le, Bool, true, false, not, ◌&&◌, length, refl, ap, ◌∙◌, arith, nat_lt}
-use Rattle.std.proofs.lemmas.Bool.{cases_lt, lt-ltb, le-ltb, lt-leb, le-leb}
+use Rattle.std.proofs.Common.{subst, ◌≤◌, ◌≡◌, suc, Bool, true, false, not, ◌&&◌, length, refl, ap, ◌∙◌, arith, nat_lt}
 use Rattle.rules.specs.Book.{side}
 use Rattle.rules.specs.declared.order.Direction.{Direction}
 use Rattle.rules.specs.declared.order.Direction.TheVariants.{Buy, Sell}
@@ -24,14 +23,6 @@ and_true : (b : Bool) → (b && true) ≡ b
 and_true true = refl
 and_true false = refl
 
--- fewer than so many is not so many or more
-fewer : (m n : ℕ) → nat_lt m n ≡ not (nat_le n m)
-fewer m n =
-    elim (cases_lt m n) [
-      | inl a ↦ lt-ltb m n a ∙ sym (ap not (lt-leb n m a))
-      | inr a ↦ le-ltb m n a ∙ sym (ap not (le-leb n m a))
-    ]
-
 module _ (t : Terms) (L : Ledger) (day : Day) (g : Agrees t L day) where
   none_on : (d : Direction) → times (suc day.tally) (side d day.table.book) ≡ 0
   none_on d =
@@ -53,6 +44,5 @@ takes_by_places t cap past =
       taken =
           λ member d limit volume.
           let room : Bool = nat_lt (length (listed d day.table)) day.table.capacity.places in
-          ap (λ h. room && not h) (not_held t (ledger model t cap past) day g) ∙ and_true room ∙
-          fewer (length (listed d day.table)) day.table.capacity.places;
+          ap (λ h. room && not h) (not_held t (ledger model t cap past) day g) ∙ and_true room;
     }

@@ -1,14 +1,13 @@
 -- The session's rules as a function: one call on one day.
-use Rattle.std.specs.Prelude.{ℕ, zero, suc, ◌+◌, ◌-◌, min, Bool, true, false, cond, not, ◌&&◌, ◌||◌, List, [], ◌∷◌, ◌++◌, length, Some, None, Option, ◌==◌, nat_le, nat_lt}
+use Rattle.std.specs.Prelude.{ℕ, zero, suc, ◌+◌, ◌-◌, min, Bool, true, false, cond, not, ◌&&◌, ◌||◌, List, [], ◌∷◌, ◌++◌, length, Some, None, Ok, Err, Option, Result, ◌==◌, nat_le, nat_lt}
 use Rattle.std.specs.Option.{option_map}
 use Rattle.rules.specs.Book.{Book}
 use Rattle.rules.specs.Fixing.{fixing_under}
-use Rattle.rules.specs.Entry.{member_row, volume_row, price_row}
-use Rattle.tables.specs.Meaning.{Capacity, Contents, book_of, empty, holding, listed, with_side, added, removed, lookup}
+use Rattle.tables.specs.Meaning.{Capacity, Contents, book_of, empty, holding, listed, with_side, added, removed}
 use Rattle.rules.specs.declared.order.Direction.{Direction}
 use Rattle.rules.specs.declared.order.Direction.TheVariants.{Buy, Sell}
 use Rattle.book.specs.declared.stage.Stage.{Stage}
-use Rattle.book.specs.declared.stage.Stage.TheVariants.{PreOpen, Open, PreClose, Closed}
+use Rattle.book.specs.declared.stage.Stage.TheVariants.{PreOpen}
 use Rattle.rules.specs.declared.order.Order.{Order}
 use Rattle.rules.specs.declared.terms.Terms.{Terms}
 use Rattle.book.specs.declared.slip.Slip.{Slip}
@@ -19,6 +18,7 @@ use Rattle.book.specs.declared.answer.Answer.{Answer}
 use Rattle.book.specs.declared.answer.Answer.TheVariants.{Entered, Altered, Withdrawn, Advanced}
 use Rattle.rules.specs.Side.{opposite, willing}
 use Rattle.tables.specs.Listing.{with_volume}
+use Rattle.book.specs.Rows.{by_row, on_ok, is_open, strikes, enter_rows, altering, withdrawing, advance_rows}
 use Rattle.book.specs.Rules.{market_price, next}
 
 -- what a session holds between calls: the stage, the last arrival given and what its table means
@@ -121,29 +121,68 @@ dealt d rest t = holding t (with_side (opposite d) rest t.book)
 abbrev pub placed : Order → ℕ → Contents → Contents
 placed e v t = cond (v == 0) t (added (with_volume v e) t)
 
--- what the rules make of a call: the number of its refusal, or the day after it, its answer and its slips
-pub data Outcome : Type 0 where
-  refused_by : ℕ → Outcome
-  done : Day → Answer → List Slip → Outcome
+-- the sweep of an order that enters over a table
+abbrev pub sweep_of : Order → Contents → Swept
+sweep_of e t = sweep e.direction e.number e.price (listed (opposite e.direction) t) e.volume
+
+-- what comes of an order that enters: its slips, the volumes traded and held, and the table
+pub record Arrived : Type 0 where
+  pub slips : List Slip
+  pub traded : ℕ
+  pub held : ℕ
+  pub table : Contents
+
+-- of what is left of an order, a market order's lapses
+abbrev pub lapse_left : Order → ℕ → List Slip
+lapse_left e v = cond (e.market && not (v == 0)) (Lapse e.number v ∷ []) []
+
+-- and a limit order's stands
+abbrev pub held_left : Order → ℕ → ℕ
+held_left e v = cond e.market 0 v
+
+abbrev pub stand_left : Order → ℕ → Contents → Contents
+stand_left e v t = cond e.market t (placed e v t)
+
+-- the order after its sweep
+abbrev pub settled : Order → Contents → Swept → Arrived
+settled e t s =
+    record {
+      slips = s.slips ++ lapse_left e s.left;
+      traded = e.volume - s.left;
+      held = held_left e s.left;
+      table = stand_left e s.left (dealt e.direction s.rest t);
+    }
+
+-- e enters where orders trade
+abbrev pub arrived : Order → Contents → Arrived
+arrived e t = settled e t (sweep_of e t)
+
+-- e enters where nothing trades
+abbrev pub queued : Order → Contents → Arrived
+queued e t = record { slips = []; traded = 0; held = e.volume; table = added e t }
+
+-- it trades first, if it is to
+abbrev pub entered : Bool → Order → Contents → Arrived
+entered trades e t = cond trades (arrived e t) (queued e t)
+
+-- what a call makes: the day after it, its answer and its slips
+pub record Made : Type 0 where
+  pub day : Day
+  pub answer : Answer
+  pub slips : List Slip
 
 -- the answer, from the volumes traded and held and the count of slips
 abbrev pub Reply : Type 0
 Reply = ℕ → ℕ → ℕ → Answer
 
--- e enters in Open
-abbrev pub arrive : Stage → ℕ → Order → Contents → Reply → Swept → Outcome
-arrive stage tally e t reply s =
-    let last : List Slip = s.slips ++ cond (s.left == 0) [] (Lapse e.number s.left ∷ []) in
-    let rest : Contents = dealt e.direction s.rest t in
-    cond e.market
-    (done (record { stage = stage; tally = tally; table = rest }) (reply (e.volume - s.left) 0 (length last)) last)
-    (done (record { stage = stage; tally = tally; table = placed e s.left rest })
-    (reply (e.volume - s.left) s.left (length s.slips)) s.slips)
-
--- e enters where nothing trades
-abbrev pub queue : Stage → ℕ → Order → Contents → Reply → Outcome
-queue stage tally e t reply =
-    done (record { stage = stage; tally = tally; table = added e t }) (reply 0 e.volume 0) []
+-- of a call by which an order entered
+abbrev pub let_in : Stage → ℕ → Reply → Arrived → Made
+let_in stage tally reply a =
+    record {
+      day = record { stage = stage; tally = tally; table = a.table };
+      answer = reply a.traded a.held (length a.slips);
+      slips = a.slips;
+    }
 
 -- The fixing ----------------------------------------------------------------------------------------------------------
 
@@ -191,117 +230,93 @@ abbrev pub limits : List Order → List Order
 limits [] = []
 limits (o ∷ os) = cond o.market (limits os) (o ∷ limits os)
 
--- the end of a strike: what is left of market orders lapses, buys before sells, and the stage is the next
-abbrev pub struck : Day → Option ℕ → Paired → Outcome
-struck day price m =
-    let slips : List Slip = m.slips ++ (lapses m.buys ++ lapses m.sells) in
-    done
-    (record {
-      stage = next day.stage;
-      tally = day.tally;
-      table = holding day.table (book_of (limits m.buys) (limits m.sells));
-    })
-    (Advanced (next day.stage) price (turnover slips) (length slips)) slips
-
 -- both sides trade at the fixing price
-abbrev pub strike : Terms → Day → Outcome
-strike t day =
-    let price : Option ℕ = fixing_price t day.table.book in
-    struck day price (match_at price day.table.book.buys day.table.book.sells)
+abbrev pub fixing_trades : Terms → Book → Paired
+fixing_trades t b = match_at (fixing_price t b) b.buys b.sells
+
+-- the slips of a strike: the trades, and then what is left of market orders lapses, buys before sells
+abbrev pub strike_slips : Paired → List Slip
+strike_slips m = m.slips ++ (lapses m.buys ++ lapses m.sells)
+
+-- what stands after it
+abbrev pub struck_book : Paired → Book
+struck_book m = book_of (limits m.buys) (limits m.sells)
+
+-- the end of a strike: the stage is the next
+abbrev pub struck : Day → Option ℕ → Paired → Made
+struck day price m =
+    record {
+      day = record { stage = next day.stage; tally = day.tally; table = holding day.table (struck_book m) };
+      answer = Advanced (next day.stage) price (turnover (strike_slips m)) (length (strike_slips m));
+      slips = strike_slips m;
+    }
+
+abbrev pub strike : Terms → Day → Made
+strike t day = struck day (fixing_price t day.table.book) (fixing_trades t day.table.book)
 
 -- The calls ------------------------------------------------------------------------------------------------------------
 
--- refused by this number where the test says so
-abbrev pub refuse : Bool → ℕ → Outcome → Outcome
-refuse b n out = cond b (refused_by n) out
-
--- tests of the stage
-abbrev pub is_closed : Stage → Bool
-is_closed PreOpen = false
-is_closed Open = false
-is_closed PreClose = false
-is_closed Closed = true
-
-abbrev pub is_open : Stage → Bool
-is_open PreOpen = false
-is_open Open = true
-is_open PreClose = false
-is_open Closed = false
-
--- refused by the number of a row, where there is one
-abbrev pub by_row : Option ℕ → Outcome → Outcome
-by_row None out = out
-by_row (Some n) out = refused_by n
-
--- a limit price is one of the band
-abbrev pub limit_row : Terms → Option ℕ → Option ℕ
-limit_row t None = None
-limit_row t (Some p) = price_row t.lo t.hi p
-
 -- in Open the order trades first, and what is left of a limit order stands; in another stage it only stands
-abbrev pub enter : Day → Order → Outcome
-enter day e =
-    let reply : Reply = Entered e.number in
-    cond (is_open day.stage)
-    (arrive day.stage e.number e day.table reply
-    (sweep e.direction e.number e.price (listed (opposite e.direction) day.table) e.volume))
-    (queue day.stage e.number e day.table reply)
+abbrev pub enter : Day → Order → Made
+enter day e = let_in day.stage e.number (Entered e.number) (entered (is_open day.stage) e day.table)
+
+-- an alter in Open to another price trades
+abbrev pub trades_again : Stage → ℕ → Order → Bool
+trades_again stage price o = is_open stage && not (price == o.price)
 
 -- the order leaves the table and comes back altered; in Open, at another price, as one that enters
-abbrev pub alter : Day → ℕ → ℕ → Order → Outcome
+abbrev pub re_entered : Stage → ℕ → Contents → ℕ → ℕ → Order → Arrived
+re_entered stage tally c price volume o =
+    entered (trades_again stage price o) (altered tally price volume o) (removed o.number c)
+
+abbrev pub alter : Day → ℕ → ℕ → Order → Made
 alter day price volume o =
-    let d : Direction = o.direction in
-    let e : Order = altered day.tally price volume o in
-    let t : Contents = removed o.number day.table in
-    let tally : ℕ = alter_tally day.tally price volume o in
-    cond (is_open day.stage && not (price == o.price))
-    (arrive day.stage tally e t Altered (sweep d o.number price (listed (opposite d) t) volume))
-    (queue day.stage tally e t Altered)
+    let_in day.stage (alter_tally day.tally price volume o) Altered (re_entered day.stage day.tally day.table price volume o)
 
 -- the order leaves the table, and its whole volume is answered
-abbrev pub withdraw : Day → Order → Outcome
+abbrev pub withdraw : Day → Order → Made
 withdraw day o =
-    done (record { stage = day.stage; tally = day.tally; table = removed o.number day.table }) (Withdrawn o.volume 0) []
+    record {
+      day = record { stage = day.stage; tally = day.tally; table = removed o.number day.table };
+      answer = Withdrawn o.volume 0;
+      slips = [];
+    }
 
--- the run has fewer places than orders are held
-abbrev pub short_strike : Day → ℕ → Bool
-short_strike day room = nat_lt room (length day.table.book.buys + length day.table.book.sells)
+-- the stage moves on, and nothing trades
+abbrev pub pass_on : Day → Made
+pass_on day =
+    record {
+      day = record { stage = next day.stage; tally = day.tally; table = day.table };
+      answer = Advanced (next day.stage) None 0 0;
+      slips = [];
+    }
 
 -- out of Pre-open and Pre-close there is a strike
-abbrev pub advance : Terms → Day → ℕ → Stage → Outcome
-advance t day room PreOpen = refuse (short_strike day room) 12 (strike t day)
-advance t day room Open =
-    done (record { stage = PreClose; tally = day.tally; table = day.table }) (Advanced PreClose None 0 0) []
-advance t day room PreClose = refuse (short_strike day room) 12 (strike t day)
-advance t day room Closed = refused_by 3
+abbrev pub advance : Terms → Day → Made
+advance t day = cond (strikes day.stage) (strike t day) (pass_on day)
 
--- in Open, the run has fewer places than the other side has orders and one more
-abbrev pub short_run : Day → ℕ → Direction → Bool
-short_run day room d = is_open day.stage && nat_lt room (length (listed (opposite d) day.table) + 1)
+-- what a call makes, or the row that refuses it, with so many places in the run
+abbrev pub own_step : Terms → Day → Call → ℕ → Result Made ℕ
+own_step t day (Enter member d limit volume) room =
+    by_row (enter_rows t day.stage day.tally day.table member d limit volume room)
+    (Ok (enter day (entering t (suc day.tally) member d limit volume)))
+own_step t day (Alter member n price volume) room =
+    on_ok (altering t day.stage day.tally day.table member n price volume room) (λ o. Ok (alter day price volume o))
+own_step t day (Withdraw member n) room = on_ok (withdrawing day.stage day.table member n) (λ o. Ok (withdraw day o))
+own_step t day Advance room = by_row (advance_rows day.stage day.table room) (Ok (advance t day))
 
--- the order named, if there is one and it is the member's
-abbrev pub owned : ℕ → Option Order → (Order → Outcome) → Outcome
-owned member None go = refused_by 7
-owned member (Some o) go = refuse (not (member == o.member)) 8 (go o)
+-- what the rules make of a call: the number of its refusal, or the day after it, its answer and its slips
+pub data Outcome : Type 0 where
+  refused_by : ℕ → Outcome
+  done : Day → Answer → List Slip → Outcome
 
--- the side holds as many orders as it has places
-abbrev pub full : Contents → Direction → Bool
-full t d = nat_le t.capacity.places (length (listed d t))
+abbrev pub done_by : Made → Outcome
+done_by m = done m.day m.answer m.slips
+
+abbrev pub came_of : Result Made ℕ → Outcome
+came_of (Err n) = refused_by n
+came_of (Ok m) = done_by m
 
 -- a call on a day, with so many places in the run
 abbrev pub step : Terms → Day → Call → ℕ → Outcome
-step t day (Enter member d limit volume) room =
-    let e : Order = entering t (suc day.tally) member d limit volume in
-    refuse (is_closed day.stage) 3 (by_row (member_row member) (by_row (volume_row t.block volume)
-    (by_row (limit_row t limit) (refuse (nat_le 1000000 day.tally) 10 (refuse (full day.table d) 11
-    (refuse (short_run day room d) 12 (enter day e)))))))
-step t day (Alter member n price volume) room =
-    refuse (is_closed day.stage) 3 (by_row (member_row member) (by_row (volume_row t.block volume)
-    (by_row (limit_row t (Some price))
-    (owned member (lookup n day.table.book)
-    (λ o. refuse o.market 9 (refuse (nat_le 1000000 day.tally) 10 (refuse (short_run day room o.direction) 12
-    (alter day price volume o))))))))
-step t day (Withdraw member n) room =
-    refuse (is_closed day.stage) 3 (by_row (member_row member)
-    (owned member (lookup n day.table.book) (withdraw day)))
-step t day Advance room = advance t day room day.stage
+step t day c room = came_of (own_step t day c room)

@@ -17,14 +17,15 @@ use Rattle.rules.specs.declared.order.Order.{Order}
 use Rattle.rules.specs.declared.terms.Terms.{Terms}
 use Rattle.book.specs.declared.slip.Slip.{Slip}
 use Rattle.book.specs.declared.slip.Slip.TheVariants.{Trade, Lapse}
-use Rattle.book.specs.declared.call.Call.TheVariants.{Enter, Alter, Withdraw, Advance}
+use Rattle.book.specs.declared.call.Call.TheVariants.{Enter, Alter, Advance}
 use Rattle.book.specs.declared.answer.Answer.{Answer}
 use Rattle.book.specs.declared.answer.Answer.TheVariants.{Entered, Altered, Withdrawn, Advanced}
 use Rattle.rules.specs.Side.{better, opposite, willing}
 use Rattle.book.specs.Ledger.{rewritten}
 use Rattle.book.specs.Rules.{market_price, next}
 use Rattle.book.specs.Law.{Law, Engine, Came, Verdict, refused, accepted}
-use Rattle.book.specs.Day.{Day, entering, Outcome, refused_by, done, step, enter, trade, is_open, arrive, queue, placed, dealt, Swept, sweep, fixing_price, Paired, match_at, lapses, limits, struck, turnover}
+use Rattle.book.specs.Rows.{is_open}
+use Rattle.book.specs.Day.{Day, entering, Outcome, refused_by, done, step, enter, trade, done_by, Made, let_in, settled, queued, placed, dealt, Swept, sweep, sweep_of, fixing_price, Paired, match_at, lapses, limits, struck, turnover}
 use Rattle.book.specs.Model.{Step, engine, model}
 
 -- the law fails of this engine
@@ -94,18 +95,16 @@ always_priced t day c room = answering with_price (step t day c room)
 
 -- Strikes -------------------------------------------------------------------------------------------------------------
 
-abbrev striking_at : (Day → Outcome) → Terms → Day → ℕ → Stage → Outcome
-striking_at f t day room PreOpen = f day
+abbrev striking_at : (Day → Made) → Terms → Day → ℕ → Stage → Outcome
+striking_at f t day room PreOpen = done_by (f day)
 striking_at f t day room Open = step t day Advance room
-striking_at f t day room PreClose = f day
+striking_at f t day room PreClose = done_by (f day)
 striking_at f t day room Closed = refused_by 3
 
 -- the rules with another strike
-abbrev pub striking : (Terms → Day → Outcome) → Step
-striking f t day (Enter member d limit volume) room = step t day (Enter member d limit volume) room
-striking f t day (Alter member n price volume) room = step t day (Alter member n price volume) room
-striking f t day (Withdraw member n) room = step t day (Withdraw member n) room
+abbrev pub striking : (Terms → Day → Made) → Step
 striking f t day Advance room = striking_at (f t) t day room day.stage
+striking f t day c room = step t day c room
 
 -- the rules with another fixing price
 abbrev pub fixing_by : (Terms → Book → Option ℕ) → Step
@@ -157,15 +156,18 @@ standing_prices =
     (fold (λ held o. tried t.reference b held o.price) (candidate t.reference b t.lo) (b.buys ++ b.sells)))
 
 -- the market orders lapse before anything trades
-abbrev lapsed_first : Terms → Day → Outcome
+abbrev lapsed_first : Terms → Day → Made
 lapsed_first t day =
     let old : Book = day.table.book in
     let b : Book = each_side limits old in
     let price : Option ℕ = fixing_price t b in
     let m : Paired = match_at price b.buys b.sells in
     let slips : List Slip = lapses old.buys ++ (lapses old.sells ++ m.slips) in
-    done (record { stage = next day.stage; tally = day.tally; table = holding day.table (book_of m.buys m.sells) })
-    (Advanced (next day.stage) price (turnover slips) (length slips)) slips
+    record {
+      day = record { stage = next day.stage; tally = day.tally; table = holding day.table (book_of m.buys m.sells) };
+      answer = Advanced (next day.stage) price (turnover slips) (length slips);
+      slips = slips;
+    }
 
 abbrev pub lapse_first : Step
 lapse_first = striking lapsed_first
@@ -175,19 +177,22 @@ backwards [] ys = ys
 backwards (x ∷ xs) ys = backwards xs (x ∷ ys)
 
 -- of the market orders that are left, the last lapses first
-abbrev last_lapses : Terms → Day → Outcome
+abbrev last_lapses : Terms → Day → Made
 last_lapses t day =
     let b : Book = day.table.book in
     let price : Option ℕ = fixing_price t b in
     let m : Paired = match_at price b.buys b.sells in
     let slips : List Slip = m.slips ++ backwards (lapses m.buys ++ lapses m.sells) [] in
-    done
-    (record {
-      stage = next day.stage;
-      tally = day.tally;
-      table = holding day.table (book_of (limits m.buys) (limits m.sells));
-    })
-    (Advanced (next day.stage) price (turnover slips) (length slips)) slips
+    record {
+      day =
+          record {
+            stage = next day.stage;
+            tally = day.tally;
+            table = holding day.table (book_of (limits m.buys) (limits m.sells));
+          };
+      answer = Advanced (next day.stage) price (turnover slips) (length slips);
+      slips = slips;
+    }
 
 abbrev pub lapse_backwards : Step
 lapse_backwards = striking last_lapses
@@ -211,20 +216,22 @@ lower_price =
 -- Trading in Open -----------------------------------------------------------------------------------------------------
 
 -- the rules with another enter in Open
-abbrev pub dealing_by : (Terms → Day → Order → Outcome) → Step
+abbrev pub dealing_by : (Terms → Day → Order → Made) → Step
 dealing_by f t day (Enter member d limit volume) room =
-    cond (is_open day.stage) (f t day (entering t (suc day.tally) member d limit volume))
+    cond (is_open day.stage) (done_by (f t day (entering t (suc day.tally) member d limit volume)))
     (step t day (Enter member d limit volume) room)
-dealing_by f t day (Alter member n price volume) room = step t day (Alter member n price volume) room
-dealing_by f t day (Withdraw member n) room = step t day (Withdraw member n) room
-dealing_by f t day Advance room = step t day Advance room
+dealing_by f t day c room = step t day c room
+
+-- an order that enters in Open with this sweep
+abbrev arrive : Day → Order → Swept → Made
+arrive day e s = let_in day.stage e.number (Entered e.number) (settled e day.table s)
 
 -- an entering order pays whatever the first of the other side asks
 abbrev pub above_limit : Step
 above_limit =
     dealing_by
     (λ t day e.
-    arrive day.stage e.number e day.table (Entered e.number)
+    arrive day e
     (sweep e.direction e.number (market_price t e.direction) (listed (opposite e.direction) day.table) e.volume))
 
 -- what is left of a market order stands, and does not lapse
@@ -232,10 +239,14 @@ abbrev pub never_lapse : Step
 never_lapse =
     dealing_by
     (λ t day e.
-    let s : Swept = sweep e.direction e.number e.price (listed (opposite e.direction) day.table) e.volume in
-    done
-    (record { stage = day.stage; tally = e.number; table = placed e s.left (dealt e.direction s.rest day.table) })
-    (Entered e.number (e.volume - s.left) s.left (length s.slips)) s.slips)
+    let s : Swept = sweep_of e day.table in
+    let_in day.stage e.number (Entered e.number)
+    (record {
+      slips = s.slips;
+      traded = e.volume - s.left;
+      held = s.left;
+      table = placed e s.left (dealt e.direction s.rest day.table);
+    }))
 
 -- the slips, with the prices and the volumes of the trades changed
 abbrev trades_by : (ℕ → ℕ) → (ℕ → ℕ) → List Slip → List Slip
@@ -248,8 +259,8 @@ abbrev slips_by : (Order → List Slip → List Slip) → Step
 slips_by f =
     dealing_by
     (λ t day e.
-    let s : Swept = sweep e.direction e.number e.price (listed (opposite e.direction) day.table) e.volume in
-    arrive day.stage e.number e day.table (Entered e.number)
+    let s : Swept = sweep_of e day.table in
+    arrive day e
     (record { slips = f e s.slips; rest = s.rest; left = s.left }))
 
 -- an entering order trades at its own price
@@ -262,7 +273,7 @@ short_trade = slips_by (λ e ss. trades_by (λ q. q) (λ v. v - 1) ss)
 
 -- an order that enters in Open does not trade
 abbrev pub never_trades : Step
-never_trades = dealing_by (λ t day e. queue day.stage e.number e day.table (Entered e.number))
+never_trades = dealing_by (λ t day e. let_in day.stage e.number (Entered e.number) (queued e day.table))
 
 -- half of the first order before the rest, where an order of this price and volume fills it on side d
 abbrev half_of_filled : Direction → ℕ → ℕ → List Order → List Order → List Order
@@ -277,7 +288,7 @@ half_stays =
     (λ t day e.
     let against : List Order = listed (opposite e.direction) day.table in
     let s : Swept = sweep e.direction e.number e.price against e.volume in
-    arrive day.stage e.number e day.table (Entered e.number)
+    arrive day e
     (record { slips = s.slips; rest = half_of_filled (opposite e.direction) e.price e.volume against s.rest; left = s.left }))
 
 abbrev of_nothing : Direction → ℕ → List Order → List Slip → List Slip
@@ -291,7 +302,7 @@ empty_trade =
     (λ t day e.
     let against : List Order = listed (opposite e.direction) day.table in
     let s : Swept = sweep e.direction e.number e.price against e.volume in
-    arrive day.stage e.number e day.table (Entered e.number)
+    arrive day e
     (record { slips = of_nothing e.direction e.number against s.slips; rest = s.rest; left = s.left }))
 
 -- the first two change places
@@ -305,20 +316,17 @@ abbrev pub passed_over : Step
 passed_over =
     dealing_by
     (λ t day e.
-    arrive day.stage e.number e day.table (Entered e.number)
+    arrive day e
     (sweep e.direction e.number e.price (swapped (listed (opposite e.direction) day.table)) e.volume))
 
 -- Price and rank ------------------------------------------------------------------------------------------------------
 
 -- a market buy has the lowest price of the band, and a market sell the highest
 abbrev pub exchanged_ends : Step
-exchanged_ends t day (Enter member d (Some p) volume) room = step t day (Enter member d (Some p) volume) room
 exchanged_ends t day (Enter member d None volume) room =
     let o : Order = entering t (suc day.tally) member d None volume in
-    enter day (rewritten (market_price t (opposite d)) o.volume o.arrival o)
-exchanged_ends t day (Alter member n price volume) room = step t day (Alter member n price volume) room
-exchanged_ends t day (Withdraw member n) room = step t day (Withdraw member n) room
-exchanged_ends t day Advance room = step t day Advance room
+    done_by (enter day (rewritten (market_price t (opposite d)) o.volume o.arrival o))
+exchanged_ends t day c room = step t day c room
 
 -- before all at its price
 abbrev ahead : Direction → Order → List Order → List Order
@@ -334,18 +342,14 @@ last_first t day (Enter member d limit volume) room =
     (done
     (record { stage = day.stage; tally = e.number; table = holding day.table (with_side d (ahead d e (side d b)) b) })
     (Entered e.number 0 volume 0) [])
-last_first t day (Alter member n price volume) room = step t day (Alter member n price volume) room
-last_first t day (Withdraw member n) room = step t day (Withdraw member n) room
-last_first t day Advance room = step t day Advance room
+last_first t day c room = step t day c room
 
 -- an alter leaves price, place and arrival as they are, and sets the volume
 abbrev pub old_arrival : Step
-old_arrival t day (Enter member d limit volume) room = step t day (Enter member d limit volume) room
 old_arrival t day (Alter member n price volume) room =
     done (record { stage = day.stage; tally = day.tally; table = volume_set n volume day.table })
     (Altered 0 volume 0) []
-old_arrival t day (Withdraw member n) room = step t day (Withdraw member n) room
-old_arrival t day Advance room = step t day Advance room
+old_arrival t day c room = step t day c room
 
 -- Refusals ------------------------------------------------------------------------------------------------------------
 

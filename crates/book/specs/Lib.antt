@@ -2,6 +2,7 @@ pub mod Exactly
 pub mod Rules
 pub mod Counts
 pub mod Ledger
+pub mod Rows
 pub mod Day
 pub mod Law
 pub mod Model

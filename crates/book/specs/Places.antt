@@ -1,20 +1,21 @@
 -- A table that does not take the next order has no place left for it.
-use Rattle.std.specs.Prelude.{◌≡◌, ◌≤◌, ℕ, suc, List, length, Option, not}
+use Rattle.std.specs.Prelude.{◌≡◌, ◌≤◌, ℕ, suc, List, length, Option}
 use Rattle.rules.specs.declared.order.Direction.{Direction}
 use Rattle.rules.specs.declared.terms.Terms.{Terms}
 use Rattle.tables.specs.Meaning.{Capacity, listed, takes}
-use Rattle.book.specs.Day.{Day, entering, full, step}
+use Rattle.book.specs.Day.{Day, entering, step}
+use Rattle.book.specs.Rows.{has_place}
 use Rattle.book.specs.Law.{Try}
 use Rattle.book.specs.Model.{day_after}
 
 -- after every history the table has the places given, no side holds more, and the table takes the next order exactly
--- where its side is not full: the number that the order would have is never held
+-- where its side has a place: the number that the order would have is never held
 pub record ByPlaces (t : Terms) (cap : Capacity) (day : Day) : Type 0 where
   pub capacity : day.table.capacity ≡ cap
   pub fits : (d : Direction) → length (listed d day.table) ≤ cap.places
   pub taken :
       (member : ℕ) (d : Direction) (limit : Option ℕ) (volume : ℕ) →
-      takes day.table (entering t (suc day.tally) member d limit volume) ≡ not (full day.table d)
+      takes day.table (entering t (suc day.tally) member d limit volume) ≡ has_place d day.table
 
 abbrev pub TakesByPlaces : Type 0
 TakesByPlaces = (t : Terms) (cap : Capacity) (past : List Try) → ByPlaces t cap (day_after step t cap past)

@@ -1,5 +1,6 @@
 // The part of the day, its number, and the one after it.
 ghost use Rattle.std.specs.Prelude.{◌≡◌};
+ghost use Rattle.book.specs.Rows.{is_open, strikes};
 ghost use Rattle.book.specs.Rules.{next, stage_number};
 
 #[derive(Clone, Copy, Debug, PartialEq, Eq)]
@@ -21,6 +22,20 @@ impl Stage {
             Stage::PreClose => Stage::Closed,
             Stage::Closed => Stage::Closed,
         }
+    }
+
+    // Orders that enter trade in Open alone.
+    pub fn is_open(self) -> bool
+        ensures { result ≡ is_open self }
+    {
+        matches!(self, Stage::Open)
+    }
+
+    // Out of Pre-open and Pre-close there is a strike.
+    pub fn strikes(self) -> bool
+        ensures { result ≡ strikes self }
+    {
+        matches!(self, Stage::PreOpen | Stage::PreClose)
     }
 
     // The number that the stage is shown as.

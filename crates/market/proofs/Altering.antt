@@ -1,5 +1,5 @@
 -- An order leaves its place and stands again.
-use Rattle.std.proofs.Common.{◌≡◌, ℕ, zero, suc, ◌+◌, ◌≤◌, Bool, true, false, not, cond, ◌&&◌, nat_lt, List, [], ◌∷◌, length, set, Some, None, Option, refl, sym, ap, subst, ◌∙◌, arith}
+use Rattle.std.proofs.Common.{◌≡◌, ℕ, zero, suc, ◌+◌, ◌<◌, ◌≤◌, Bool, true, false, not, cond, ◌&&◌, nat_lt, List, [], ◌∷◌, length, set, Some, None, Option, refl, sym, ap, subst, ◌∙◌, arith}
 use Rattle.std.proofs.lemmas.Bool.{and_from, and_parts, not_from_false, lt-ltb, cond-true, cond-false, eqb-true}
 use Rattle.std.specs.List as lists
 use Rattle.std.specs.List.{slice_get, list_all, find}
@@ -10,14 +10,26 @@ use Rattle.rules.specs.declared.order.Direction.{Direction}
 use Rattle.rules.specs.declared.order.Direction.TheVariants.{Buy, Sell}
 use Rattle.rules.specs.declared.order.Order.{Order}
 use Rattle.tables.specs.Listing.{numbered, times, insert, with_volume, without, in_rank}
-use Rattle.tables.specs.Meaning.{Contents, Sound, listed, lookup, book_of, held, takes, put_in, removed, volume_set}
+use Rattle.tables.specs.Meaning.{Contents, Sound, listed, lookup, book_of, held, takes, put_in, added, removed, volume_set}
 use Rattle.tables.proofs.Keeps.{held_none}
 use Rattle.tables.proofs.Numbers.{without_at, set_volume_at, times_at}
 use Rattle.tables.proofs.Ranking.{ranking, Ranking}
 use Rattle.market.specs.Fills.{with_listed}
-use Rattle.market.specs.Altered.{without_order}
 use Rattle.market.proofs.Taking.{get_is, listed_side, is_held, removed_listed, set_listed, stands, few}
-use Rattle.market.proofs.Lapsing.{remove_length}
+use Rattle.market.proofs.Sweeping.{with_same}
+
+-- the table without the order
+abbrev pub without_order : Order → Contents → Contents
+without_order o c = with_listed o.direction (without o.number (listed o.direction c)) c
+
+pub listed_own : (d : Direction) (xs : List Order) (c : Contents) → listed (opposite d) (with_listed d xs c) ≡ listed (opposite d) c
+listed_own Buy xs c = refl
+listed_own Sell xs c = refl
+
+pub remove_length : (i : ℕ) (xs : List Order) (o : Order) → slice_get xs i ≡ Some o → length (lists.remove xs i) + 1 ≡ length xs
+remove_length i [] o h = let z : ◌≡◌ {A = ℕ} 0 1 = cc in absurd (omega arith)
+remove_length zero (x ∷ xs) o h = omega arith
+remove_length (suc i) (x ∷ xs) o h = omega (arith, remove_length i xs o h)
 
 -- where the order stands that is found
 pub record Spot (n : ℕ) (xs : List Order) (o : Order) : Type 0 where
@@ -137,3 +149,31 @@ kept_in_place c s o v i h p =
     put_is : (d : Direction) → with_listed d (insert (before d) (with_volume v o) (without o.number (listed d c))) c ≡ with_listed d (insert (before d) (with_volume v o) (listed d (with_listed d (without o.number (listed d c)) c))) (with_listed d (without o.number (listed d c)) c)
     put_is Buy = refl
     put_is Sell = refl
+
+set_back : (xs : List Order) (i : ℕ) (o : Order) → slice_get xs i ≡ Some o → set xs i o ≡ xs
+set_back [] i o h = refl
+set_back (x ∷ xs) zero o h = let y : x ≡ o = cc in ap (λ z. z ∷ xs) (sym y)
+set_back (x ∷ xs) (suc i) o h = ap (λ ys. x ∷ ys) (set_back xs i o h)
+
+module _ (c : Contents) (s : Sound c) (o : Order) (found : lookup o.number c.book ≡ Some o) where
+  at : Held o.number c o
+  at = looked_up o.number c s o found
+
+  -- an order that is given another volume leaves the table and comes back
+  pub set_in_place : (v : ℕ) → (v ≡ 0 → ⊥) → volume_set o.number v c ≡ added (with_volume v o) (removed o.number c)
+  set_in_place v some =
+      kept_in_place c s o v at.rank at.there some
+      ∙ sym (cond-true _ (put_in (with_volume v o) (without_order o c)) (without_order o c) (takes_again c s o (with_volume v o) refl refl at.rank at.there))
+      ∙ ap (added (with_volume v o)) (sym (gone c s o o refl refl at.rank at.there))
+
+  -- with its own volume the table is as it was
+  pub as_it_was : 0 < o.volume → c ≡ added (with_volume o.volume o) (removed o.number c)
+  as_it_was some =
+      let d = o.direction in
+      let sv = set_volume_at o.number o.volume (listed d c) at.rank o (stands c s d at.rank o at.there) (few c s d at.rank o at.there) in
+      sym (
+      set_listed c s d at.rank o at.there o.volume (λ z. omega arith)
+      ∙ ap (λ ys. with_listed d ys c) (sym (ap (λ z. set (listed d c) at.rank (with_volume o.volume z)) (sym (get_is (listed d c) at.rank o o at.there)) ∙ sv) ∙ set_back (listed d c) at.rank o at.there)
+      ∙ with_same d c
+      )
+      ∙ set_in_place o.volume (λ z. omega arith)

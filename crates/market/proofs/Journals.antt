@@ -16,8 +16,7 @@ use Rattle.book.specs.Marks.{Session, begun}
 use Rattle.book.specs.Model.{model, moved, came, day_after}
 use Rattle.book.proofs.Leading.{leads_agrees}
 use Rattle.market.specs.declared.journal.Entry.{Entry}
-use Rattle.market.specs.Outcome.{written_into}
-use Rattle.market.specs.Rows.{told}
+use Rattle.market.specs.Outcome.{told, written_into}
 use Rattle.market.specs.Works.{Seen, opened, counted, verdict, Worked, works, came_to}
 use Rattle.market.specs.Journaled.{verdict_of, line_in, run_through, Follows, Asked, Told, tries, lines, Journaled}
 use Rattle.market.proofs.Working.{lawfully, wrote}

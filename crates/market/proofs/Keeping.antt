@@ -1,6 +1,6 @@
 -- Trading and lapsing leave a part of the orders: no number comes in.
-use Rattle.std.proofs.Common.{◌≡◌, ℕ, zero, suc, ◌+◌, ◌-◌, min, ◌≤◌, true, not, ◌||◌, ◌&&◌, ◌==◌, List, [], ◌∷◌, length, leb, nat_lt, arith, Some, None, Option}
-use Rattle.std.proofs.lemmas.Bool.{cond_both, and_from, and_parts, not-true, not_from_false}
+use Rattle.std.proofs.Common.{◌≡◌, ℕ, zero, suc, ◌+◌, ◌-◌, min, ◌<◌, ◌≤◌, true, not, ◌||◌, ◌&&◌, ◌==◌, List, [], ◌∷◌, length, leb, nat_lt, arith, Some, None, Option}
+use Rattle.std.proofs.lemmas.Bool.{cond_both, lt-ltb, and_from, and_parts, not-true, not_from_false}
 use Rattle.std.proofs.lemmas.List.Sums.{length-filter, count_by-le-length}
 use Rattle.rules.specs.Side.{opposite, willing}
 use Rattle.rules.specs.declared.order.Direction.{Direction}
@@ -91,3 +91,7 @@ takes_still c o xs p h = go o.direction p (and_parts _ _ h).0 (free c.book o.num
         (nat_lt (length (listed d (with_listed (opposite d) xs c))) c.capacity.places && not (held o.number (with_listed (opposite d) xs c).book)) ≡ true
     go Buy p l f = and_from _ _ l (not_from_false _ (held_none (book_of c.book.buys xs) o.number (omega (arith, p.numbers o.number))))
     go Sell p l f = and_from _ _ l (not_from_false _ (held_none (book_of xs c.book.sells) o.number (omega (arith, p.numbers o.number))))
+
+-- an order whose number is not held and whose side has a place is taken
+pub takes_new : (c : Contents) (o : Order) → length (listed o.direction c) < c.capacity.places → times o.number c.book.buys + times o.number c.book.sells ≡ 0 → takes c o ≡ true
+takes_new c o place free = and_from _ _ (lt-ltb (length (listed o.direction c)) c.capacity.places place) (not_from_false _ (held_none c.book o.number free))

@@ -1,5 +1,5 @@
 -- One turn of the pairing.
-use Rattle.std.proofs.Common.{◌≡◌, ℕ, zero, suc, ◌+◌, min, ◌<◌, ◌≤◌, Bool, true, false, ◌&&◌, List, [], ◌∷◌, length, set, Some, None, refl, sym, ap, subst, ◌∙◌, arith, add-zero, ⊎_elim}
+use Rattle.std.proofs.Common.{◌≡◌, ℕ, zero, suc, ◌+◌, min, ◌<◌, ◌≤◌, Bool, true, false, ◌&&◌, List, [], ◌∷◌, ◌++◌, append_assoc, append-nil, length, take, drop, Some, None, refl, sym, ap, subst, ◌∙◌, arith, ⊎_elim}
 use Rattle.std.proofs.lemmas.Bool.{le-leb, cond-true, cond-false, cases_lt, cases_Bool}
 use Rattle.std.specs.List.{slice_get}
 use Rattle.rules.specs.Side.{willing}
@@ -7,17 +7,32 @@ use Rattle.rules.specs.declared.order.Direction.TheVariants.{Buy, Sell}
 use Rattle.rules.specs.declared.order.Order.{Order}
 use Rattle.tables.specs.Meaning.{Contents, Sound, listed, holding, book_of}
 use Rattle.book.specs.declared.slip.Slip.{Slip}
-use Rattle.book.specs.declared.slip.Slip.TheVariants.{Trade}
-use Rattle.book.specs.Day.{Paired, pair, paired as slipped, turnover}
-use Rattle.market.specs.Fills.{put, took, took_on}
-use Rattle.market.specs.Strikes.{orders_of, struck, pair_end, paired}
+use Rattle.book.specs.declared.slip.Slip.TheVariants.{Trade, Lapse}
+use Rattle.std.proofs.lemmas.List.{length-take-le}
+use Rattle.market.specs.Outcome.{written_into}
+use Rattle.market.proofs.Writing.{written_so_far}
+use Rattle.book.specs.Day.{Paired, match_at, pair, paired as slipped, turnover}
+use Rattle.book.specs.Rows.{orders_of}
+use Rattle.market.specs.Fills.{took, took_on}
 use Rattle.market.proofs.Taking.{first_list, listed_side}
 use Rattle.market.proofs.Sweeping.{took_most}
 
 abbrev pub Both : ℕ → Order → Order → Bool
 Both p b s = willing Buy b.price p && willing Sell s.price p
 
-abbrev still : List Order → List Order → Paired
+-- the same with slips before
+abbrev pub after : List Slip → Paired → Paired
+after ss w = record { slips = ss ++ w.slips; buys = w.buys; sells = w.sells }
+
+pub after_more : (ss : List Slip) (s : Slip) (w : Paired) → after (ss ++ (s ∷ [])) w ≡ after ss (slipped s w)
+after_more ss s w = ap (λ xs. record { slips = xs; buys = w.buys; sells = w.sells }) (append_assoc ss (s ∷ []) w.slips)
+
+pub turnover_append : (xs ys : List Slip) → turnover (xs ++ ys) ≡ turnover xs + turnover ys
+turnover_append [] ys = omega arith
+turnover_append (Trade b s p v ∷ xs) ys = omega (arith, turnover_append xs ys)
+turnover_append (Lapse n v ∷ xs) ys = turnover_append xs ys
+
+abbrev pub still : List Order → List Order → Paired
 still bs ss = record { slips = []; buys = bs; sells = ss }
 
 took_one : (m : ℕ) (o : Order) (os : List Order) → o.volume ≤ m → length (took m (o ∷ os)) ≡ length os
@@ -37,12 +52,12 @@ module _ (p : ℕ) where
       pair p (suc n) (b ∷ bs) (s ∷ ss) ≡ slipped (Trade b.number s.number p m) (pair p n (took m (b ∷ bs)) (took m (s ∷ ss)))
   turn n m b s bs ss h e = rw e (cond-true _ _ _ h)
 
-  none : (n : ℕ) (bs ss : List Order) → slice_get bs 0 ≡ None → pair p n bs ss ≡ still bs ss
+  pub none : (n : ℕ) (bs ss : List Order) → slice_get bs 0 ≡ None → pair p n bs ss ≡ still bs ss
   none zero bs ss h = refl
   none (suc n) [] ss h = refl
   none (suc n) (b ∷ bs) ss h = let z : ◌≡◌ {A = ℕ} 0 1 = cc in absurd (omega arith)
 
-  none_sell : (n : ℕ) (bs ss : List Order) → slice_get ss 0 ≡ None → pair p n bs ss ≡ still bs ss
+  pub none_sell : (n : ℕ) (bs ss : List Order) → slice_get ss 0 ≡ None → pair p n bs ss ≡ still bs ss
   none_sell zero bs ss h = refl
   none_sell (suc n) [] ss h = refl
   none_sell (suc n) (b ∷ bs) [] h = refl
@@ -67,53 +82,34 @@ module _ (p : ℕ) where
       (λ t. stop (suc n) b s bs ss t ∙ sym (stop (suc k) b s bs ss t))
       (cases_Bool (Both p b s))
 
-  module _ (v k : ℕ) (c : Contents) (run : List Slip) where
-    paired_still : pair p (orders_of c) c.book.buys c.book.sells ≡ still c.book.buys c.book.sells → paired p v k c run ≡ struck v k c run
-    paired_still h =
-        let x : v + 0 ≡ v = add-zero v in
-        let y : k + 0 ≡ k = add-zero k in
-        ap (pair_end v k c run) h ∙ (λ i. struck (x i) (y i) c run)
+  module _ (c : Contents) (b s : Order) (hb : slice_get c.book.buys 0 ≡ Some b) (hs : slice_get c.book.sells 0 ≡ Some s) where
+    f : (os : List Order) × (c.book.buys ≡ b ∷ os)
+    f = first_list c.book.buys b hb
 
-    pub paired_none : slice_get c.book.buys 0 ≡ None → paired p v k c run ≡ struck v k c run
-    paired_none h = paired_still (none (orders_of c) c.book.buys c.book.sells h)
+    g : (os : List Order) × (c.book.sells ≡ s ∷ os)
+    g = first_list c.book.sells s hs
 
-    pub paired_none_sell : slice_get c.book.sells 0 ≡ None → paired p v k c run ≡ struck v k c run
-    paired_none_sell h = paired_still (none_sell (orders_of c) c.book.buys c.book.sells h)
+    pub pair_stop : Both p b s ≡ false → pair p (orders_of c) c.book.buys c.book.sells ≡ still c.book.buys c.book.sells
+    pair_stop h =
+        (λ i. pair p (orders_of c) (f.1 i) (g.1 i)) ∙ stop (orders_of c) b s f.0 g.0 h ∙ (λ i. still (sym f.1 i) (sym g.1 i))
 
-    module _ (b s : Order) (hb : slice_get c.book.buys 0 ≡ Some b) (hs : slice_get c.book.sells 0 ≡ Some s) where
-      f : (os : List Order) × (c.book.buys ≡ b ∷ os)
-      f = first_list c.book.buys b hb
+    pub pair_turn : (m : ℕ) → Both p b s ≡ true → m ≡ min b.volume s.volume →
+        pair p (orders_of c) c.book.buys c.book.sells
+        ≡ slipped (Trade b.number s.number p m) (pair p (length (took m c.book.buys) + length (took m c.book.sells)) (took m c.book.buys) (took m c.book.sells))
+    pair_turn m h e =
+        let n = orders_of c in
+        let bs = took m c.book.buys in
+        let ss = took m c.book.sells in
+        let slip = Trade b.number s.number p m in
+        let more = enough n (suc n) c.book.buys c.book.sells (omega arith) (omega arith) in
+        let one : pair p (suc n) c.book.buys c.book.sells ≡ slipped slip (pair p n bs ss) =
+        (λ i. pair p (suc n) (f.1 i) (g.1 i)) ∙ turn n m b s f.0 g.0 h e ∙ (λ i. slipped slip (pair p n (took m (sym f.1 i)) (took m (sym g.1 i)))) in
+        let less = enough n (length bs + length ss) bs ss (omega (arith, took_most m c.book.buys, took_most m c.book.sells)) (omega arith) in
+        more ∙ one ∙ ap (slipped slip) less
 
-      g : (os : List Order) × (c.book.sells ≡ s ∷ os)
-      g = first_list c.book.sells s hs
-
-      pub paired_stop : Both p b s ≡ false → paired p v k c run ≡ struck v k c run
-      paired_stop h =
-          let x = f.1 in
-          let y = g.1 in
-          let z = stop (orders_of c) b s f.0 g.0 h in
-          paired_still (ap (λ bs. pair p (orders_of c) bs c.book.sells) x ∙ ap (pair p (orders_of c) (b ∷ f.0)) y ∙ z ∙ (λ i. still (sym x i) (sym y i)))
-
-      pub paired_turn : (m : ℕ) → Both p b s ≡ true → m ≡ min b.volume s.volume →
-          paired p v k c run ≡ paired p (v + m) (k + 1) (took_on Sell m (took_on Buy m c)) (set run k (Trade b.number s.number p m))
-      paired_turn m h e =
-          let n = orders_of c in
-          let bs = took m c.book.buys in
-          let ss = took m c.book.sells in
-          let slip = Trade b.number s.number p m in
-          let w = pair p (length bs + length ss) bs ss in
-          let more = enough n (suc n) c.book.buys c.book.sells (omega arith) (omega arith) in
-          let one : pair p (suc n) c.book.buys c.book.sells ≡ slipped slip (pair p n bs ss) =
-          (λ i. pair p (suc n) (f.1 i) (g.1 i)) ∙ turn n m b s f.0 g.0 h e ∙ (λ i. slipped slip (pair p n (took m (sym f.1 i)) (took m (sym g.1 i)))) in
-          let less = enough n (length bs + length ss) bs ss (omega (arith, took_most m c.book.buys, took_most m c.book.sells)) (omega arith) in
-          let all : pair p n c.book.buys c.book.sells ≡ slipped slip w = more ∙ one ∙ ap (slipped slip) less in
-          let x : v + (m + turnover w.slips) ≡ (v + m) + turnover w.slips = omega arith in
-          let y : k + length (slip ∷ w.slips) ≡ (k + 1) + length w.slips = omega arith in
-          ap (pair_end v k c run) all ∙ (λ i. struck (x i) (y i) (holding c (book_of w.buys w.sells)) (put (k + 1) w.slips (set run k slip)))
-
-      pub took_fewer : (m : ℕ) → m ≡ min b.volume s.volume → length (took m c.book.buys) + length (took m c.book.sells) < orders_of c
-      took_fewer m e =
-          omega (arith, took_pair m b s f.0 g.0 e, ap (λ z. length (took m z)) f.1, ap (λ z. length (took m z)) g.1, ap length f.1, ap length g.1)
+    pub took_fewer : (m : ℕ) → m ≡ min b.volume s.volume → length (took m c.book.buys) + length (took m c.book.sells) < orders_of c
+    took_fewer m e =
+        omega (arith, took_pair m b s f.0 g.0 e, ap (λ z. length (took m z)) f.1, ap (λ z. length (took m z)) g.1, ap length f.1, ap length g.1)
 
 -- the two takes of a turn
 module _ (c : Contents) (sound : Sound c) (m : ℕ) (b s : Order) (hb : slice_get c.book.buys 0 ≡ Some b) (hs : slice_get c.book.sells 0 ≡ Some s) where
@@ -135,3 +131,27 @@ module _ (c : Contents) (sound : Sound c) (m : ℕ) (b s : Order) (hb : slice_ge
 
     pub both_taken : (last : Contents) → last ≡ took_on s.direction m after → last ≡ took_on Sell m (took_on Buy m c)
     both_taken last k = k ∙ ap (λ d. took_on d m after) sell_side ∙ ap (took_on Sell m) bought
+
+pub record Ended (all : Paired) (old t : Contents) (run0 now' : List Slip) (v k : ℕ) : Type 0 where
+  pub traded : v ≡ turnover all.slips
+  pub written : k ≡ length all.slips
+  pub table : t ≡ holding old (book_of all.buys all.sells)
+  pub run : now' ≡ written_into run0 all.slips
+
+-- where the pairing ends, what is written is the slips of the whole, and what stands is what it leaves
+module _ (p : ℕ) (old t : Contents) (run0 run : List Slip) (traded k : ℕ) (v : traded ≡ turnover (take k run)) (cap : t.capacity ≡ old.capacity) (rest : drop k run ≡ drop k run0) (fits : k ≤ length run)
+    (e : match_at (Some p) old.book.buys old.book.sells ≡ after (take k run) (still t.book.buys t.book.sells)) where
+  abbrev all : Paired
+  all = match_at (Some p) old.book.buys old.book.sells
+
+  slips : take k run ≡ all.slips
+  slips = sym (ap (λ (w : Paired). w.slips) e ∙ append-nil (take k run))
+
+  pub ended : Ended all old t run0 run traded k
+  ended =
+      record {
+        traded = v ∙ ap turnover slips;
+        written = sym (length-take-le k run fits) ∙ ap length slips;
+        table = λ i. record { capacity = cap i; book = book_of (sym e i).buys (sym e i).sells };
+        run = written_so_far k run run0 rest fits ∙ ap (written_into run0) slips;
+      }

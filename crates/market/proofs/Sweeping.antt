@@ -1,5 +1,5 @@
 -- One turn of the sweep.
-use Rattle.std.proofs.Common.{◌≡◌, ℕ, ◌+◌, ◌-◌, min, ◌<◌, ◌≤◌, Bool, true, false, not, ◌||◌, List, [], ◌∷◌, length, set, Some, None, leb, ◌==◌, refl, sym, ap, ◌∙◌, arith, add-zero, ⊎_elim}
+use Rattle.std.proofs.Common.{◌≡◌, ℕ, ◌+◌, ◌-◌, min, ◌<◌, ◌≤◌, Bool, true, false, not, ◌||◌, List, [], ◌∷◌, ◌++◌, append_assoc, length, Some, None, leb, ◌==◌, refl, sym, ap, ◌∙◌, arith, ⊎_elim}
 use Rattle.std.proofs.lemmas.Bool.{le-leb, lt-leb, cond-true, cond-false, cond_both, cases_lt}
 use Rattle.std.specs.List.{slice_get}
 use Rattle.rules.specs.Side.{opposite, willing}
@@ -10,7 +10,7 @@ use Rattle.tables.specs.Listing.{with_volume}
 use Rattle.tables.specs.Meaning.{Contents, listed}
 use Rattle.book.specs.declared.slip.Slip.{Slip}
 use Rattle.book.specs.Day.{Swept, sweep, swept as slipped, trade}
-use Rattle.market.specs.Fills.{put, took, with_listed, took_on, ended, over, swept}
+use Rattle.market.specs.Fills.{took, with_listed}
 use Rattle.market.proofs.Taking.{first_list}
 
 pub with_same : (d : Direction) (c : Contents) → with_listed d (listed d c) c ≡ c
@@ -25,8 +25,15 @@ pub on_twice : (d : Direction) (xs ys : List Order) (c : Contents) → with_list
 on_twice Buy xs ys c = refl
 on_twice Sell xs ys c = refl
 
+-- the same with slips before
+abbrev pub after : List Slip → Swept → Swept
+after ss w = record { slips = ss ++ w.slips; rest = w.rest; left = w.left }
+
+pub after_more : (ss : List Slip) (s : Slip) (w : Swept) → after (ss ++ (s ∷ [])) w ≡ after ss (slipped s w)
+after_more ss s w = ap (λ xs. record { slips = xs; rest = w.rest; left = w.left }) (append_assoc ss (s ∷ []) w.slips)
+
 -- nothing more happens
-abbrev still : List Order → ℕ → Swept
+abbrev pub still : List Order → ℕ → Swept
 still xs v = record { slips = []; rest = xs; left = v }
 
 -- the order n of side d and price p
@@ -36,17 +43,6 @@ module _ (d : Direction) (n p : ℕ) where
 
   abbrev Stop : Order → ℕ → Bool
   Stop o v = v == 0 || not (willing a o.price p)
-
-  over_still : (k : ℕ) (c : Contents) (run : List Slip) (v : ℕ) → over a k c run (still (listed a c) v) ≡ ended v k c run
-  over_still k c run v = let m : k + 0 ≡ k = add-zero k in let e = with_same a c in λ i. ended v (m i) (e i) run
-
-  -- one slip more
-  over_slip : (ys : List Order) (k : ℕ) (c : Contents) (run : List Slip) (s : Slip) (w : Swept) →
-      over a k c run (slipped s w) ≡ over a (k + 1) (with_listed a ys c) (set run k s) w
-  over_slip ys k c run s w =
-      let e = sym (on_twice a w.rest ys c) in
-      let m : k + length (s ∷ w.slips) ≡ (k + 1) + length w.slips = omega arith in
-      λ i. ended w.left (m i) (e i) (put (k + 1) w.slips (set run k s))
 
   stop : (o : Order) (os : List Order) (v : ℕ) → Stop o v ≡ true → sweep d n p (o ∷ os) v ≡ still (o ∷ os) v
   stop o os v h = cond-true _ _ _ h
@@ -82,28 +78,21 @@ module _ (d : Direction) (n p : ℕ) where
           let u = stop (with_volume (o.volume - m) o) os 0 refl in
           cc
 
-  none : (xs : List Order) (v : ℕ) → slice_get xs 0 ≡ None → sweep d n p xs v ≡ still xs v
-  none [] v h = refl
-  none (x ∷ xs) v h = let z : ◌≡◌ {A = ℕ} 0 1 = cc in absurd (omega arith)
+  pub sweep_none : (xs : List Order) (v : ℕ) → slice_get xs 0 ≡ None → sweep d n p xs v ≡ still xs v
+  sweep_none [] v h = refl
+  sweep_none (x ∷ xs) v h = let z : ◌≡◌ {A = ℕ} 0 1 = cc in absurd (omega arith)
 
-  pub swept_none : (v k : ℕ) (c : Contents) (run : List Slip) → slice_get (listed a c) 0 ≡ None → swept d n p v k c run ≡ ended v k c run
-  swept_none v k c run h = ap (over a k c run) (none (listed a c) v h) ∙ over_still k c run v
+  pub sweep_stop : (xs : List Order) (o : Order) (v : ℕ) → slice_get xs 0 ≡ Some o → Stop o v ≡ true → sweep d n p xs v ≡ still xs v
+  sweep_stop xs o v h t =
+      let f = first_list xs o h in
+      ap (λ ys. sweep d n p ys v) f.1 ∙ stop o f.0 v t ∙ ap (λ ys. still ys v) (sym f.1)
 
-  pub swept_stop : (o : Order) (v k : ℕ) (c : Contents) (run : List Slip) → slice_get (listed a c) 0 ≡ Some o → Stop o v ≡ true → swept d n p v k c run ≡ ended v k c run
-  swept_stop o v k c run h t =
-      let f = first_list (listed a c) o h in
-      ap (over a k c run) (ap (λ ys. sweep d n p ys v) f.1 ∙ stop o f.0 v t ∙ ap (λ ys. still ys v) (sym f.1)) ∙ over_still k c run v
-
-  pub swept_turn : (o : Order) (v k m : ℕ) (c : Contents) (run : List Slip) → slice_get (listed a c) 0 ≡ Some o → Stop o v ≡ false → m ≡ min v o.volume →
-      swept d n p v k c run ≡ swept d n p (v - m) (k + 1) (took_on a m c) (set run k (trade d n o.number o.price m))
-  swept_turn o v k m c run h goes e =
-      let f = first_list (listed a c) o h in
-      let s = trade d n o.number o.price m in
-      let ys = took m (listed a c) in
-      let x : sweep d n p (listed a c) v ≡ slipped s (sweep d n p (listed a (with_listed a ys c)) (v - m)) =
-      ap (λ xs. sweep d n p xs v) f.1 ∙ turn o f.0 v m goes e
-      ∙ ap (λ xs. slipped s (sweep d n p xs (v - m))) (ap (took m) (sym f.1) ∙ sym (listed_on a ys c)) in
-      ap (over a k c run) x ∙ over_slip ys k c run s (sweep d n p (listed a (with_listed a ys c)) (v - m))
+  pub sweep_turn : (xs : List Order) (o : Order) (v m : ℕ) → slice_get xs 0 ≡ Some o → Stop o v ≡ false → m ≡ min v o.volume →
+      sweep d n p xs v ≡ slipped (trade d n o.number o.price m) (sweep d n p (took m xs) (v - m))
+  sweep_turn xs o v m h goes e =
+      let f = first_list xs o h in
+      ap (λ ys. sweep d n p ys v) f.1 ∙ turn o f.0 v m goes e
+      ∙ ap (λ ys. slipped (trade d n o.number o.price m) (sweep d n p (took m ys) (v - m))) (sym f.1)
 
 pub first_length : (xs : List Order) (o : Order) → slice_get xs 0 ≡ Some o → 0 < length xs
 first_length xs o h = let f = first_list xs o h in omega (arith, ap length f.1)

@@ -20,8 +20,8 @@ use Rattle.book.specs.Room.{FitsRun}
 use Rattle.book.proofs.Leading.{going_on}
 use Rattle.book.proofs.Rooms.{room_stands}
 use Rattle.market.specs.Follow.{stage_after, followed}
-use Rattle.market.specs.Outcome.{Kept, day_at, written_into, Acted, acted, acted_as, acts}
-use Rattle.market.specs.Works.{Seen, seen, trial, Worked, came_to, answered, run_after, worked_by, works, counted, verdict, line_of, Lawfully}
+use Rattle.market.specs.Outcome.{Kept, day_at, written_into, answered, tally_after, table_after, run_after}
+use Rattle.market.specs.Works.{Seen, seen, trial, Worked, came_to, worked_by, works, counted, verdict, line_of, Lawfully}
 use Rattle.market.proofs.Holding.{Fine, step_fine}
 
 abbrev is_ok : Result Answer ℕ → Bool
@@ -89,48 +89,41 @@ module _ (t : Terms) (stage : Stage) (tally : ℕ) (m : DayRecord) (c : Contents
   fine : Fine (stage_after stage call) out
   fine = step_fine stage tally c h s t call (length run)
 
-  -- a refusal leaves the session as it was
-  pub refused_is : (n tally' : ℕ) (c' : Contents) (run' : List Slip) → acted (Err n) tally' c' run' ≡ acts t stage tally c call run →
-      came_to (Err n) (at stage tally' c') run' ≡ works before call run
-  refused_is n tally' c' run' e = go out e
-    where
-      go : (o : Outcome) → acted (Err n) tally' c' run' ≡ acted_as tally c run o → came_to (Err n) (at stage tally' c') run' ≡ worked_by before call run o
-      go (refused_by k) q = ap (λ (x : Acted). came_to x.answer (at stage x.tally x.after) x.run) q
-      go (done day b slips) q = absurd (both_ways true (sym (ap (λ (x : Acted). is_ok x.answer) q)) refl)
-
-  pub refused_kept : (n tally' : ℕ) (c' : Contents) (run' : List Slip) → acted (Err n) tally' c' run' ≡ acts t stage tally c call run → Kept tally' c'
-  refused_kept n tally' c' run' e = go out e
-    where
-      go : (o : Outcome) → acted (Err n) tally' c' run' ≡ acted_as tally c run o → Kept tally' c'
-      go (refused_by k) q = subst (λ (x : Acted). Kept x.tally x.after) (sym q) h
-      go (done day b slips) q = absurd (both_ways true (sym (ap (λ (x : Acted). is_ok x.answer) q)) refl)
-
-  module _ (a : Answer) (tally' : ℕ) (c' : Contents) (run' : List Slip) (e : acted (Ok a) tally' c' run' ≡ acts t stage tally c call run) where
-    pub done_kept : Kept tally' c'
-    done_kept = go out e fine
+  module _ (tally' : ℕ) (c' : Contents) (run' : List Slip) (et : tally' ≡ tally_after tally out) (ec : c' ≡ table_after c out) (er : run' ≡ run_after run out) where
+    pub kept_after : Kept tally' c'
+    kept_after = subst (λ x. Kept x c') (sym et) (subst (Kept (tally_after tally out)) (sym ec) (go out fine))
       where
-        go : (o : Outcome) → acted (Ok a) tally' c' run' ≡ acted_as tally c run o → Fine (stage_after stage call) o → Kept tally' c'
-        go (refused_by k) q f = absurd (both_ways true (ap (λ (x : Acted). is_ok x.answer) q) refl)
-        go (done day b slips) q f = subst (λ (x : Acted). Kept x.tally x.after) (sym q) f.kept
+        go : (o : Outcome) → Fine (stage_after stage call) o → Kept (tally_after tally o) (table_after c o)
+        go (refused_by n) f = h
+        go (done day a slips) f = f.kept
 
-    pub done_fits : slip_count a ≤ length run'
-    done_fits = go out e (room_stands t (day_at stage tally c) call (length run))
+    -- a refusal leaves the session as it was
+    pub refused_is : (n : ℕ) → Err n ≡ answered out → came_to (Err n) (at stage tally' c') run' ≡ works before call run
+    refused_is n ea = go out ea et ec er
       where
-        go : (o : Outcome) → acted (Ok a) tally' c' run' ≡ acted_as tally c run o → FitsRun (length run) o → slip_count a ≤ length run'
-        go (refused_by k) q f = absurd (both_ways true (ap (λ (x : Acted). is_ok x.answer) q) refl)
-        go (done day b slips) q f =
-            subst (λ (x : Acted). counted x.answer ≤ length x.run) (sym q) (room_for run slips (slip_count b) f.0 f.1)
+        go : (o : Outcome) → Err n ≡ answered o → tally' ≡ tally_after tally o → c' ≡ table_after c o → run' ≡ run_after run o → came_to (Err n) (at stage tally' c') run' ≡ worked_by before call run o
+        go (refused_by k) ea et ec er = λ i. came_to (ea i) (at stage (et i) (ec i)) (er i)
+        go (done day b slips) ea et ec er = absurd (both_ways true (sym (ap is_ok ea)) refl)
 
-    pub done_is : came_to (Ok a) (seen t (followed t c' call (take (slip_count a) run') (record { stage = stage; tally = tally'; day = m })) c') run' ≡ works before call run
-    done_is = go out e fine (room_stands t (day_at stage tally c) call (length run))
-      where
-        after : Acted → Worked
-        after x = came_to x.answer (seen t (followed t x.after call (take (counted x.answer) x.run) (record { stage = stage; tally = x.tally; day = m })) x.after) x.run
+    module _ (a : Answer) (ea : Ok a ≡ answered out) where
+      pub done_fits : slip_count a ≤ length run'
+      done_fits = go out ea er (room_stands t (day_at stage tally c) call (length run))
+        where
+          go : (o : Outcome) → Ok a ≡ answered o → run' ≡ run_after run o → FitsRun (length run) o → slip_count a ≤ length run'
+          go (refused_by k) ea er f = absurd (both_ways true (ap is_ok ea) refl)
+          go (done day b slips) ea er f =
+              subst (λ z. slip_count a ≤ length z) (sym er) (room_for run slips (slip_count a) (ap counted ea ∙ f.0) f.1)
 
-        go : (o : Outcome) → acted (Ok a) tally' c' run' ≡ acted_as tally c run o → Fine (stage_after stage call) o → FitsRun (length run) o →
-            came_to (Ok a) (seen t (followed t c' call (take (slip_count a) run') (record { stage = stage; tally = tally'; day = m })) c') run' ≡ worked_by before call run o
-        go (refused_by k) q f r = absurd (both_ways true (ap (λ (x : Acted). is_ok x.answer) q) refl)
-        go (done day b slips) q f r =
-            ap after q
-            ∙ ap (λ ss. came_to (Ok b) (seen t (followed t day.table call ss (record { stage = stage; tally = day.tally; day = m })) day.table) (written_into run slips)) (taken run b slips r.0)
-            ∙ ap (λ st. came_to (Ok b) (record { terms = t; session = record { day = record { stage = st; tally = day.tally; table = day.table }; marks = marked t stage call m (done day b slips) } }) (written_into run slips)) (sym f.staged)
+      pub done_is : came_to (Ok a) (seen t (followed t c' call (take (slip_count a) run') (record { stage = stage; tally = tally'; day = m })) c') run' ≡ works before call run
+      done_is = go out ea et ec er fine (room_stands t (day_at stage tally c) call (length run))
+        where
+          after : Result Answer ℕ → ℕ → Contents → List Slip → Worked
+          after r n x ss = came_to r (seen t (followed t x call (take (counted r) ss) (record { stage = stage; tally = n; day = m })) x) ss
+
+          go : (o : Outcome) → Ok a ≡ answered o → tally' ≡ tally_after tally o → c' ≡ table_after c o → run' ≡ run_after run o → Fine (stage_after stage call) o → FitsRun (length run) o →
+              came_to (Ok a) (seen t (followed t c' call (take (slip_count a) run') (record { stage = stage; tally = tally'; day = m })) c') run' ≡ worked_by before call run o
+          go (refused_by k) ea et ec er f r = absurd (both_ways true (ap is_ok ea) refl)
+          go (done day b slips) ea et ec er f r =
+              (λ i. after (ea i) (et i) (ec i) (er i))
+              ∙ ap (λ ss. came_to (Ok b) (seen t (followed t day.table call ss (record { stage = stage; tally = day.tally; day = m })) day.table) (written_into run slips)) (taken run b slips r.0)
+              ∙ ap (λ st. came_to (Ok b) (record { terms = t; session = record { day = record { stage = st; tally = day.tally; table = day.table }; marks = marked t stage call m (done day b slips) } }) (written_into run slips)) (sym f.staged)

@@ -1,10 +1,6 @@
-pub mod Rows
 pub mod Fills
-pub mod Strikes
 pub mod Covering
 pub mod Outcome
 pub mod Follow
-pub mod Leaving
-pub mod Altered
 pub mod Works
 pub mod Journaled

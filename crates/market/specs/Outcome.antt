@@ -1,5 +1,7 @@
 -- What a call makes of a table and a run, by the rules of the book.
 use Rattle.std.specs.Prelude.{◌≡◌, ℕ, ◌+◌, ◌<◌, ◌≤◌, List, ◌++◌, drop, length, Ok, Err, Result}
+use Rattle.rules.specs.Refusal.{number}
+use Rattle.rules.specs.declared.refusal.Refusal.{Refusal}
 use Rattle.rules.specs.declared.terms.Terms.{Terms}
 use Rattle.tables.specs.Listing.{times}
 use Rattle.tables.specs.Meaning.{Contents}
@@ -8,7 +10,12 @@ use Rattle.book.specs.declared.call.Call.{Call}
 use Rattle.book.specs.declared.slip.Slip.{Slip}
 use Rattle.book.specs.declared.stage.Stage.{Stage}
 use Rattle.book.specs.Day.{Day, Outcome, refused_by, done, step}
-use Rattle.market.specs.Strikes.{orders_of}
+use Rattle.book.specs.Rows.{orders_of}
+
+-- a result as a caller is told it: a refusal by its number
+abbrev pub told : {X : Type 0} → Result X Refusal → Result X ℕ
+told (Ok x) = Ok x
+told (Err e) = Err (number e)
 
 -- the day of a table
 abbrev pub day_at : Stage → ℕ → Contents → Day
@@ -22,23 +29,23 @@ outcome_at t stage tally c call room = step t (day_at stage tally c) call room
 abbrev pub written_into : List Slip → List Slip → List Slip
 written_into run slips = slips ++ drop (length slips) run
 
--- the answer or the refusal's number, the arrivals given, the table and the run
-pub record Acted : Type 0 where
-  pub answer : Result Answer ℕ
-  pub tally : ℕ
-  pub after : Contents
-  pub run : List Slip
-
-abbrev pub acted : Result Answer ℕ → ℕ → Contents → List Slip → Acted
-acted answer tally c run = record { answer = answer; tally = tally; after = c; run = run }
+-- the answer or the refusal's number
+abbrev pub answered : Outcome → Result Answer ℕ
+answered (refused_by n) = Err n
+answered (done day a slips) = Ok a
 
 -- a refusal leaves everything as it was
-abbrev pub acted_as : ℕ → Contents → List Slip → Outcome → Acted
-acted_as tally c run (refused_by n) = acted (Err n) tally c run
-acted_as tally c run (done day a slips) = acted (Ok a) day.tally day.table (written_into run slips)
+abbrev pub tally_after : ℕ → Outcome → ℕ
+tally_after tally (refused_by n) = tally
+tally_after tally (done day a slips) = day.tally
 
-abbrev pub acts : Terms → Stage → ℕ → Contents → Call → List Slip → Acted
-acts t stage tally c call run = acted_as tally c run (outcome_at t stage tally c call (length run))
+abbrev pub table_after : Contents → Outcome → Contents
+table_after c (refused_by n) = c
+table_after c (done day a slips) = day.table
+
+abbrev pub run_after : List Slip → Outcome → List Slip
+run_after run (refused_by n) = run
+run_after run (done day a slips) = written_into run slips
 
 -- what holds of the arrivals given and the orders held: no number is above the last arrival, and there are no more
 -- orders than arrivals

@@ -6,14 +6,14 @@ use Rattle.book.specs.declared.answer.Answer.{Answer}
 use Rattle.book.specs.declared.call.Call.{Call}
 use Rattle.book.specs.declared.slip.Slip.{Slip}
 use Rattle.book.specs.Counts.{slip_count}
-use Rattle.book.specs.Day.{Outcome, refused_by, done}
+use Rattle.book.specs.Day.{Outcome}
 use Rattle.book.specs.Journal.{Line}
 use Rattle.book.specs.Law.{Try, Verdict, refused, accepted}
 use Rattle.book.specs.Ending.{reference_by}
 use Rattle.book.specs.Leads.{outcome, Leads, GoesOn}
 use Rattle.book.specs.Marks.{Session, begun, worked}
 use Rattle.market.specs.declared.state.State.{State}
-use Rattle.market.specs.Outcome.{written_into}
+use Rattle.market.specs.Outcome.{answered, run_after}
 
 -- what a session means: its terms, and its day with what the next reference price needs
 pub record Seen : Type 0 where
@@ -41,15 +41,6 @@ pub record Worked : Type 0 where
 
 abbrev pub came_to : Result Answer ℕ → Seen → List Slip → Worked
 came_to answer s run = record { answer = answer; after = s; run = run }
-
-abbrev pub answered : Outcome → Result Answer ℕ
-answered (refused_by n) = Err n
-answered (done day a slips) = Ok a
-
--- a refusal writes nothing
-abbrev pub run_after : List Slip → Outcome → List Slip
-run_after run (refused_by n) = run
-run_after run (done day a slips) = written_into run slips
 
 abbrev pub worked_by : Seen → Call → List Slip → Outcome → Worked
 worked_by s call run out =

@@ -1,12 +1,10 @@
 // Advancing to the next stage.
-ghost use Rattle.std.specs.Prelude.{◌≡◌, ℕ, ◌≤◌};
+ghost use Rattle.std.specs.Prelude.{◌≡◌, ℕ, ◌≤◌, length};
 ghost use Rattle.book.specs.declared.call.Call.TheVariants.{Advance};
-ghost use Rattle.market.specs.Outcome.{acted, acts};
-ghost use Rattle.market.specs.Rows.{told};
-ghost use Rattle.market.specs.Strikes.{orders_of};
-ghost use Rattle.market.specs.Leaving.{left_with, leaves};
+ghost use Rattle.book.specs.Rows.{orders_of};
+ghost use Rattle.market.specs.Outcome.{told, outcome_at, answered, tally_after, table_after, run_after};
 
-use crate::rows::{check_stage, check_strike};
+use crate::rows::check_advance;
 use crate::strikes::{Struck, strike};
 use book::answer::Answer;
 use book::slip::Slip;
@@ -14,29 +12,6 @@ use book::stage::Stage;
 use rules::refusal::Refusal;
 use rules::terms::Terms;
 use tables::table::Table;
-
-// Leaves the stage: with a strike where it is Pre-open or Pre-close.
-fn leave<T: Table>(
-    terms: &Terms,
-    stage: Stage,
-    table: &mut T,
-    run: &mut [Slip],
-) -> Result<Struck, Refusal>
-    requires { orders_of (T.Table.contents table.old) ≤ 1000000 }
-    ensures { left_with (told result) (T.Table.contents table.new) run.new ≡ leaves terms.now stage (T.Table.contents table.old) run.old }
-{
-    match stage {
-        Stage::PreOpen | Stage::PreClose => {
-            check_strike(table, run.len())?;
-            Ok(strike(terms, table, run))
-        }
-        _ => Ok(Struck {
-            price: None,
-            traded: 0,
-            written: 0,
-        }),
-    }
-}
 
 // Moves to the next stage; leaving Pre-open or Pre-close strikes a fixing.
 pub fn advance<T: Table>(
@@ -46,14 +21,25 @@ pub fn advance<T: Table>(
     run: &mut [Slip],
 ) -> Result<Answer, Refusal>
     requires { orders_of (T.Table.contents table.old) ≤ 1000000 }
-    ensures { (tally : ℕ) → acted (told result) tally (T.Table.contents table.new) run.new ≡ acts terms.now stage tally (T.Table.contents table.old) Advance run.old }
+    ensures answer { (tally : ℕ) → told result ≡ answered (outcome_at terms.now stage tally (T.Table.contents table.old) Advance (length run.old)) }
+    ensures tally { (tally : ℕ) → tally ≡ tally_after tally (outcome_at terms.now stage tally (T.Table.contents table.old) Advance (length run.old)) }
+    ensures table { (tally : ℕ) → T.Table.contents table.new ≡ table_after (T.Table.contents table.old) (outcome_at terms.now stage tally (T.Table.contents table.old) Advance (length run.old)) }
+    ensures run { (tally : ℕ) → run.new ≡ run_after run.old (outcome_at terms.now stage tally (T.Table.contents table.old) Advance (length run.old)) }
 {
-    check_stage(stage)?;
-    let done = leave(terms, stage, table, run)?;
+    check_advance(stage, table, run.len())?;
+    let struck = if stage.strikes() {
+        strike(terms, table, run)
+    } else {
+        Struck {
+            price: None,
+            traded: 0,
+            written: 0,
+        }
+    };
     Ok(Answer::Advanced {
         stage: stage.next(),
-        price: done.price,
-        traded: done.traded,
-        slips: done.written,
+        price: struck.price,
+        traded: struck.traded,
+        slips: struck.written,
     })
 }

@@ -1,22 +1,21 @@
 // Orders that are altered, and orders that are withdrawn.
-ghost use Rattle.std.specs.Prelude.{◌≡◌, ℕ, ◌+◌, ◌<◌, true, List, Some, None, length};
+ghost use Rattle.std.specs.Prelude.{◌≡◌, ℕ, ◌+◌, ◌<◌, ◌≤◌, true, List, Some, length};
 ghost use Rattle.rules.specs.Side.{opposite};
 ghost use Rattle.rules.specs.declared.order.Order.{Order};
 ghost use Rattle.rules.specs.declared.terms.Terms.{Terms};
-ghost use Rattle.tables.specs.Meaning.{listed, lookup};
+ghost use Rattle.tables.specs.Listing.{with_volume};
+ghost use Rattle.tables.specs.Meaning.{listed, lookup, added, removed};
 ghost use Rattle.book.specs.declared.call.Call.TheVariants.{Alter, Withdraw};
-ghost use Rattle.book.specs.declared.slip.Slip.{Slip};
-ghost use Rattle.book.specs.Day.{is_open};
-ghost use Rattle.market.specs.Altered.{again, as_placed, changed, changes};
-ghost use Rattle.market.specs.Outcome.{Kept, acted, acts};
-ghost use Rattle.market.specs.Rows.{told, altering, withdrawing, run_row, placed};
+ghost use Rattle.book.specs.Rows.{is_open};
+ghost use Rattle.book.specs.Day.{entered, re_entered, alter_tally};
+ghost use Rattle.market.specs.Fills.{fill_of};
+ghost use Rattle.market.specs.Outcome.{Kept, told, outcome_at, answered, tally_after, table_after, run_after, written_into};
 
-use crate::entries::{Fill, arrive, queue};
-use crate::rows::{check_arrivals, check_entry, check_run, check_stage, find_owned};
+use crate::entries::{Fill, let_in};
+use crate::rows::{check_alter, check_withdraw};
 use book::answer::Answer;
 use book::slip::Slip;
 use book::stage::Stage;
-use rules::entry::check_member;
 use rules::order::Order;
 use rules::refusal::Refusal;
 use rules::terms::Terms;
@@ -31,57 +30,32 @@ pub struct Wanted {
     pub volume: u32,
 }
 
-// The order that is to be altered.
-fn admit<T: Table>(
-    terms: &Terms,
-    stage: Stage,
-    tally: u32,
-    table: &T,
-    wanted: Wanted,
-    room: usize,
-) -> Result<Order, Refusal>
-    ensures { told result ≡ altering terms.now stage tally (T.Table.contents table.now) wanted room }
-{
-    check_entry(
-        terms,
-        stage,
-        wanted.member,
-        Some(wanted.price),
-        wanted.volume,
-    )?;
-    let order = find_owned(table, wanted.member, wanted.number)?;
-    if order.market {
-        return Err(Refusal::MarketOrder);
-    }
-    check_arrivals(tally)?;
-    check_run(table, stage, order.direction, room)?;
-    Ok(order)
-}
-
 // An order leaves its place and enters again; it trades first, if it is to.
-fn enter_again<T: Table>(
-    table: &mut T,
-    order: Order,
-    trades: bool,
-    run: &mut [Slip],
-) -> Result<Fill, Refusal>
+fn enter_again<T: Table>(table: &mut T, order: Order, trades: bool, run: &mut [Slip]) -> Fill
     requires stands { ((o : Order) × (lookup order.number (T.Table.contents table.old).book ≡ Some o) × (o.direction ≡ order.direction)) }
     requires long { trades ≡ true → length (listed (opposite order.direction) (T.Table.contents table.old)) < length run.old }
-    ensures { placed (told result) (T.Table.contents table.new) run.new ≡ as_placed (again trades order (T.Table.contents table.old) run.old) }
+    ensures fill { result ≡ fill_of (entered trades order (removed order.number (T.Table.contents table.old))) }
+    ensures table { T.Table.contents table.new ≡ (entered trades order (removed order.number (T.Table.contents table.old))).table }
+    ensures run { run.new ≡ written_into run.old (entered trades order (removed order.number (T.Table.contents table.old))).slips }
 {
-    table.remove(order.number).map_err(|_no| Refusal::NotHeld)?;
-    if trades {
-        Ok(arrive(table, order, run))
-    } else {
-        queue(table, order)
-    }
+    let Ok(()) = table.remove(order.number) else {
+        unreachable!()
+    };
+    let_in(table, order, trades, run)
 }
 
-// Orders that enter trade in Open alone.
-fn trades_in(stage: Stage) -> bool
-    ensures { result ≡ is_open stage }
+// An order of the same price and no greater volume keeps its place.
+fn keep_place<T: Table>(table: &mut T, order: &Order, volume: u32)
+    requires some { 0 < volume }
+    requires most { volume ≤ order.now.volume }
+    requires found { lookup order.now.number (T.Table.contents table.old).book ≡ Some order.now }
+    ensures { T.Table.contents table.new ≡ added (with_volume volume order.now) (removed order.now.number (T.Table.contents table.old)) }
 {
-    matches!(stage, Stage::Open)
+    if volume < order.volume {
+        let Ok(()) = table.set_volume(order.number, volume) else {
+            unreachable!()
+        };
+    }
 }
 
 // The order as it is to be, with the next arrival.
@@ -108,34 +82,28 @@ fn change<T: Table>(
     order: Order,
     wanted: Wanted,
     run: &mut [Slip],
-) -> Result<Fill, Refusal>
+) -> Fill
     requires given { tally.old < 1000000 }
     requires some { 0 < wanted.volume }
     requires found { lookup order.number (T.Table.contents table.old).book ≡ Some order }
-    requires long { run_row stage (length run.old) order.direction (T.Table.contents table.old) ≡ None }
-    ensures { changed tally.new (placed (told result) (T.Table.contents table.new) run.new) ≡ changes stage tally.old wanted order (T.Table.contents table.old) run.old }
+    requires long { is_open stage ≡ true → length (listed (opposite order.direction) (T.Table.contents table.old)) < length run.old }
+    ensures tally { tally.new ≡ alter_tally tally.old wanted.price wanted.volume order }
+    ensures fill { result ≡ fill_of (re_entered stage tally.old (T.Table.contents table.old) wanted.price wanted.volume order) }
+    ensures table { T.Table.contents table.new ≡ (re_entered stage tally.old (T.Table.contents table.old) wanted.price wanted.volume order).table }
+    ensures run { run.new ≡ written_into run.old (re_entered stage tally.old (T.Table.contents table.old) wanted.price wanted.volume order).slips }
 {
     match (order, wanted) {
         (o, w) if w.price != o.price => {
-            enter_again(table, renewed(tally, &o, &w), trades_in(stage), run)
+            enter_again(table, renewed(tally, &o, &w), stage.is_open(), run)
         }
         (o, w) if w.volume > o.volume => { enter_again(table, renewed(tally, &o, &w), false, run) }
-        (o, w) if w.volume < o.volume => {
-            table
-                .set_volume(o.number, w.volume)
-                .map_err(|_no| Refusal::NotHeld)?;
-            Ok(Fill {
+        (o, w) => {
+            keep_place(table, &o, w.volume);
+            Fill {
                 traded: 0,
                 held: w.volume,
                 written: 0,
-            })
-        }
-        (o, _) => {
-            Ok(Fill {
-                traded: 0,
-                held: o.volume,
-                written: 0,
-            })
+            }
         }
     }
 }
@@ -149,24 +117,18 @@ pub fn alter<T: Table>(
     run: &mut [Slip],
 ) -> Result<Answer, Refusal>
     requires { Kept tally.old (T.Table.contents table.old) }
-    ensures { acted (told result) tally.new (T.Table.contents table.new) run.new ≡ acts terms.now stage tally.old (T.Table.contents table.old) (Alter wanted.member wanted.number wanted.price wanted.volume) run.old }
+    ensures answer { told result ≡ answered (outcome_at terms.now stage tally.old (T.Table.contents table.old) (Alter wanted.member wanted.number wanted.price wanted.volume) (length run.old)) }
+    ensures tally { tally.new ≡ tally_after tally.old (outcome_at terms.now stage tally.old (T.Table.contents table.old) (Alter wanted.member wanted.number wanted.price wanted.volume) (length run.old)) }
+    ensures table { T.Table.contents table.new ≡ table_after (T.Table.contents table.old) (outcome_at terms.now stage tally.old (T.Table.contents table.old) (Alter wanted.member wanted.number wanted.price wanted.volume) (length run.old)) }
+    ensures run { run.new ≡ run_after run.old (outcome_at terms.now stage tally.old (T.Table.contents table.old) (Alter wanted.member wanted.number wanted.price wanted.volume) (length run.old)) }
 {
-    let order = admit(terms, stage, *tally, table, wanted, run.len())?;
-    let fill = change(stage, tally, table, order, wanted, run)?;
+    let order = check_alter(terms, stage, *tally, table, wanted, run.len())?;
+    let fill = change(stage, tally, table, order, wanted, run);
     Ok(Answer::Altered {
         traded: fill.traded,
         held: fill.held,
         slips: fill.written,
     })
-}
-
-// The order that is to be withdrawn.
-fn leaving<T: Table>(stage: Stage, table: &T, member: u32, number: u32) -> Result<Order, Refusal>
-    ensures { told result ≡ withdrawing stage (T.Table.contents table.now) member number }
-{
-    check_stage(stage)?;
-    check_member(member)?;
-    find_owned(table, member, number)
 }
 
 pub fn withdraw<T: Table>(
@@ -175,10 +137,15 @@ pub fn withdraw<T: Table>(
     member: u32,
     number: u32,
 ) -> Result<Answer, Refusal>
-    ensures { (t : Terms) (tally : ℕ) (run : List Slip) → acted (told result) tally (T.Table.contents table.new) run ≡ acts t stage tally (T.Table.contents table.old) (Withdraw member number) run }
+    ensures answer { (t : Terms) (tally room : ℕ) → told result ≡ answered (outcome_at t stage tally (T.Table.contents table.old) (Withdraw member number) room) }
+    ensures tally { (t : Terms) (tally room : ℕ) → tally ≡ tally_after tally (outcome_at t stage tally (T.Table.contents table.old) (Withdraw member number) room) }
+    ensures table { (t : Terms) (tally room : ℕ) → T.Table.contents table.new ≡ table_after (T.Table.contents table.old) (outcome_at t stage tally (T.Table.contents table.old) (Withdraw member number) room) }
+    ensures run { (t : Terms) (tally : ℕ) (run : List Slip) → run ≡ run_after run (outcome_at t stage tally (T.Table.contents table.old) (Withdraw member number) (length run)) }
 {
-    let order = leaving(stage, table, member, number)?;
-    table.remove(number).map_err(|_no| Refusal::NotHeld)?;
+    let order = check_withdraw(stage, table, member, number)?;
+    let Ok(()) = table.remove(number) else {
+        unreachable!()
+    };
     Ok(Answer::Withdrawn {
         volume: order.volume,
         slips: 0,

@@ -1,15 +1,14 @@
 // Orders that enter.
-ghost use Rattle.std.specs.Prelude.{◌≡◌, ◌-◌, ◌<◌, true, false, length};
+ghost use Rattle.std.specs.Prelude.{◌≡◌, ◌<◌, true, length};
 ghost use Rattle.rules.specs.Side.{opposite};
-ghost use Rattle.tables.specs.Meaning.{listed, takes, added, held};
+ghost use Rattle.tables.specs.Meaning.{listed, takes};
 ghost use Rattle.book.specs.declared.call.Call.TheVariants.{Enter};
-ghost use Rattle.book.specs.Day.{limit_price as price_for, entering};
-ghost use Rattle.market.specs.Fills.{ended, filled, settled, arrived};
-ghost use Rattle.market.specs.Outcome.{Kept, acted, acts};
-ghost use Rattle.market.specs.Rows.{told, queued, placed, places_of};
+ghost use Rattle.book.specs.Day.{limit_price as price_for, entering, lapse_left, held_left as held_of, stand_left, arrived, entered};
+ghost use Rattle.market.specs.Fills.{fill_of};
+ghost use Rattle.market.specs.Outcome.{Kept, told, outcome_at, answered, tally_after, table_after, run_after, written_into};
 
-use crate::fills::{Swept, sweep};
-use crate::rows::{check_arrivals, check_entry, check_run, check_side};
+use crate::fills::sweep;
+use crate::rows::check_enter;
 use book::answer::Answer;
 use book::slip::Slip;
 use book::stage::Stage;
@@ -63,47 +62,38 @@ fn order_of(terms: &Terms, arrival: u32, entry: NewOrder) -> Order
     }
 }
 
-// What is left of an order after its sweep: a limit order stands, a market order lapses.
-fn settle<T: Table>(table: &mut T, order: Order, swept: Swept, run: &mut [Slip]) -> Fill
-    requires room { takes (T.Table.contents table.old) order ≡ true }
-    requires place { swept.written < length run.old }
-    requires traded { swept.traded ≡ order.volume - swept.left }
-    ensures { filled result.traded result.held result.written (T.Table.contents table.new) run.new ≡ settled order (ended swept.left swept.written (T.Table.contents table.old) run.old) }
+// What is held of an order of which so much is left.
+fn held_left(order: &Order, left: u32) -> u32
+    ensures { result ≡ held_of order.now left }
 {
-    let Swept {
-        traded,
-        left,
-        written,
-    } = swept;
+    if order.market { 0 } else { left }
+}
+
+// What is left of an order after its sweep: a limit order stands, a market order lapses. The slips written.
+fn settle<T: Table>(table: &mut T, order: &Order, left: u32, run: &mut [Slip]) -> usize
+    requires room { takes (T.Table.contents table.old) order.now ≡ true }
+    requires place { 0 < length run.old }
+    ensures written { result ≡ length (lapse_left order.now left) }
+    ensures table { T.Table.contents table.new ≡ stand_left order.now left (T.Table.contents table.old) }
+    ensures run { run.new ≡ written_into run.old (lapse_left order.now left) }
+{
     if left == 0 {
-        return Fill {
-            traded,
-            held: 0,
-            written,
-        };
+        return 0;
     }
     if order.market {
-        run[written] = Slip::Lapse {
+        run[0] = Slip::Lapse {
             number: order.number,
             volume: left,
         };
-        return Fill {
-            traded,
-            held: 0,
-            written: written + 1,
-        };
+        return 1;
     }
     let Ok(()) = table.add(Order {
         volume: left,
-        ..order
+        ..*order
     }) else {
         unreachable!()
     };
-    Fill {
-        traded,
-        held: left,
-        written,
-    }
+    0
 }
 
 // An order of the side S enters in Open.
@@ -111,17 +101,26 @@ fn arrive_on<S: Side, T: Table>(table: &mut T, order: Order, run: &mut [Slip]) -
     requires side { order.direction ≡ S.Quotes.way }
     requires room { takes (T.Table.contents table.old) order ≡ true }
     requires long { length (listed (opposite order.direction) (T.Table.contents table.old)) < length run.old }
-    ensures { filled result.traded result.held result.written (T.Table.contents table.new) run.new ≡ arrived order (T.Table.contents table.old) run.old }
+    ensures fill { result ≡ fill_of (arrived order (T.Table.contents table.old)) }
+    ensures table { T.Table.contents table.new ≡ (arrived order (T.Table.contents table.old)).table }
+    ensures run { run.new ≡ written_into run.old (arrived order (T.Table.contents table.old)).slips }
 {
     let swept = sweep::<S, T>(table, &order, run);
-    settle(table, order, swept, run)
+    let lapsed = settle(table, &order, swept.left, &mut run[swept.written..]);
+    Fill {
+        traded: swept.traded,
+        held: held_left(&order, swept.left),
+        written: swept.written + lapsed,
+    }
 }
 
 // Here the side of an order goes from a value to a type.
 pub fn arrive<T: Table>(table: &mut T, order: Order, run: &mut [Slip]) -> Fill
     requires room { takes (T.Table.contents table.old) order ≡ true }
     requires long { length (listed (opposite order.direction) (T.Table.contents table.old)) < length run.old }
-    ensures { filled result.traded result.held result.written (T.Table.contents table.new) run.new ≡ arrived order (T.Table.contents table.old) run.old }
+    ensures fill { result ≡ fill_of (arrived order (T.Table.contents table.old)) }
+    ensures table { T.Table.contents table.new ≡ (arrived order (T.Table.contents table.old)).table }
+    ensures run { run.new ≡ written_into run.old (arrived order (T.Table.contents table.old)).slips }
 {
     match order.direction {
         Direction::Buy => arrive_on::<Buys, T>(table, order, run),
@@ -129,36 +128,24 @@ pub fn arrive<T: Table>(table: &mut T, order: Order, run: &mut [Slip]) -> Fill
     }
 }
 
-// An order enters where nothing trades.
-pub fn queue<T: Table>(table: &mut T, order: Order) -> Result<Fill, Refusal>
-    ensures answer { told result ≡ queued (takes (T.Table.contents table.old) order) order }
-    ensures after { T.Table.contents table.new ≡ added order (T.Table.contents table.old) }
+// An order enters: it trades first, if it is to.
+pub fn let_in<T: Table>(table: &mut T, order: Order, trades: bool, run: &mut [Slip]) -> Fill
+    requires room { takes (T.Table.contents table.old) order ≡ true }
+    requires long { trades ≡ true → length (listed (opposite order.direction) (T.Table.contents table.old)) < length run.old }
+    ensures fill { result ≡ fill_of (entered trades order (T.Table.contents table.old)) }
+    ensures table { T.Table.contents table.new ≡ (entered trades order (T.Table.contents table.old)).table }
+    ensures run { run.new ≡ written_into run.old (entered trades order (T.Table.contents table.old)).slips }
 {
-    table.add(order).map_err(|_no| Refusal::SideFull)?;
-    Ok(Fill {
+    if trades {
+        return arrive(table, order, run);
+    }
+    let Ok(()) = table.add(order) else {
+        unreachable!()
+    };
+    Fill {
         traded: 0,
         held: order.volume,
         written: 0,
-    })
-}
-
-// An order whose number is not held enters; in Open it trades first.
-fn place<T: Table>(
-    stage: Stage,
-    table: &mut T,
-    order: Order,
-    run: &mut [Slip],
-) -> Result<Fill, Refusal>
-    requires { held order.number (T.Table.contents table.old).book ≡ false }
-    ensures { placed (told result) (T.Table.contents table.new) run.new ≡ places_of stage order (T.Table.contents table.old) run.old }
-{
-    match stage {
-        Stage::Open => {
-            check_side(table, order.direction)?;
-            check_run(table, stage, order.direction, run.len())?;
-            Ok(arrive(table, order, run))
-        }
-        _ => queue(table, order),
     }
 }
 
@@ -171,13 +158,15 @@ pub fn enter<T: Table>(
     run: &mut [Slip],
 ) -> Result<Answer, Refusal>
     requires { Kept tally.old (T.Table.contents table.old) }
-    ensures { acted (told result) tally.new (T.Table.contents table.new) run.new ≡ acts terms.now stage tally.old (T.Table.contents table.old) (Enter entry.member entry.direction entry.limit entry.volume) run.old }
+    ensures answer { told result ≡ answered (outcome_at terms.now stage tally.old (T.Table.contents table.old) (Enter entry.member entry.direction entry.limit entry.volume) (length run.old)) }
+    ensures tally { tally.new ≡ tally_after tally.old (outcome_at terms.now stage tally.old (T.Table.contents table.old) (Enter entry.member entry.direction entry.limit entry.volume) (length run.old)) }
+    ensures table { T.Table.contents table.new ≡ table_after (T.Table.contents table.old) (outcome_at terms.now stage tally.old (T.Table.contents table.old) (Enter entry.member entry.direction entry.limit entry.volume) (length run.old)) }
+    ensures run { run.new ≡ run_after run.old (outcome_at terms.now stage tally.old (T.Table.contents table.old) (Enter entry.member entry.direction entry.limit entry.volume) (length run.old)) }
 {
-    check_entry(terms, stage, entry.member, entry.limit, entry.volume)?;
-    check_arrivals(*tally)?;
-    let order = order_of(terms, *tally + 1, entry);
-    let fill = place(stage, table, order, run)?;
-    *tally = order.number;
+    check_enter(terms, stage, *tally, table, entry, run.len())?;
+    *tally += 1;
+    let order = order_of(terms, *tally, entry);
+    let fill = let_in(table, order, stage.is_open(), run);
     Ok(Answer::Entered {
         number: order.number,
         traded: fill.traded,

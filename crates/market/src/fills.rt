@@ -3,8 +3,9 @@ ghost use Rattle.std.specs.Prelude.{◌≡◌, ◌-◌, ◌≤◌, Some, length}
 ghost use Rattle.std.specs.List.{slice_get};
 ghost use Rattle.rules.specs.Side.{opposite};
 ghost use Rattle.tables.specs.Meaning.{listed};
-ghost use Rattle.book.specs.Day.{trade as trade_of};
-ghost use Rattle.market.specs.Fills.{ended, swept, took_on};
+ghost use Rattle.book.specs.Day.{trade as trade_of, sweep_of, dealt};
+ghost use Rattle.market.specs.Fills.{took_on};
+ghost use Rattle.market.specs.Outcome.{written_into};
 
 use book::slip::Slip;
 use rules::order::{Direction, Order};
@@ -56,27 +57,31 @@ fn trade<S: Quotes>(number: u32, resting: &Order, volume: u32) -> Slip
 
 // An order of the side S trades with the other side, first to last, while that is willing.
 pub fn sweep<S: Side, T: Table>(table: &mut T, order: &Order, run: &mut [Slip]) -> Swept
-    requires { length (listed (opposite S.Quotes.way) (T.Table.contents table.old)) ≤ length run.old }
+    requires side { order.now.direction ≡ S.Quotes.way }
+    requires room { length (listed (opposite S.Quotes.way) (T.Table.contents table.old)) ≤ length run.old }
     ensures traded { result.traded ≡ order.now.volume - result.left }
-    ensures whole { ended result.left result.written (T.Table.contents table.new) run.new ≡ swept S.Quotes.way order.now.number order.now.price order.now.volume 0 (T.Table.contents table.old) run.old }
+    ensures left { result.left ≡ (sweep_of order.now (T.Table.contents table.old)).left }
+    ensures written { result.written ≡ length (sweep_of order.now (T.Table.contents table.old)).slips }
+    ensures table { T.Table.contents table.new ≡ dealt S.Quotes.way (sweep_of order.now (T.Table.contents table.old)).rest (T.Table.contents table.old) }
+    ensures run { run.new ≡ written_into run.old (sweep_of order.now (T.Table.contents table.old)).slips }
 {
     let mut left = order.volume;
     let mut written = 0;
-    let (traded, left) = 'orders: loop {
+    'orders: loop {
         let Some(first) = table.at(S::Opposite::direction(), 0) else {
-            break (order.volume - left, left);
+            break;
         };
         if left == 0 || !meets::<S>(order.price, first.price) {
-            break (order.volume - left, left);
+            break;
         }
         let volume = left.min(first.volume);
         run[written] = trade::<S>(order.number, &first, volume);
         written += 1;
         left -= volume;
         take(table, &first, volume);
-    };
+    }
     Swept {
-        traded: u128::from(traded),
+        traded: u128::from(order.volume - left),
         left,
         written,
     }

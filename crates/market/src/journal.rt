@@ -1,7 +1,6 @@
 // A whole list of calls, worked from a new session on, and the journal of what came of each.
 ghost use Rattle.std.specs.Prelude.{◌≡◌, IfOk, IsOk, length};
-ghost use Rattle.market.specs.Outcome.{written_into};
-ghost use Rattle.market.specs.Rows.{told};
+ghost use Rattle.market.specs.Outcome.{told, written_into};
 ghost use Rattle.market.specs.Works.{counted};
 ghost use Rattle.market.specs.Journaled.{Journaled, Follows, run_through};
 

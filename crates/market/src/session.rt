@@ -2,8 +2,7 @@
 ghost use Rattle.std.specs.Prelude.{◌≡◌, length};
 ghost use Rattle.book.specs.Marks.{left_by, reference_left};
 ghost use Rattle.book.specs.declared.call.Call.TheVariants.{Enter, Alter, Withdraw, Advance};
-ghost use Rattle.market.specs.Outcome.{Kept, acted, acts};
-ghost use Rattle.market.specs.Rows.{told};
+ghost use Rattle.market.specs.Outcome.{Kept, told, outcome_at, answered, tally_after, table_after, run_after};
 ghost use Rattle.market.specs.Works.{opened, came_to, works, Lawfully, EndsAs};
 
 use crate::advances::advance;
@@ -177,7 +176,10 @@ fn act<T: Table>(
     run: &mut [Slip],
 ) -> Result<Answer, Refusal>
     requires { Kept tally.old (T.Table.contents table.old) }
-    ensures { acted (told result) tally.new (T.Table.contents table.new) run.new ≡ acts terms.now stage tally.old (T.Table.contents table.old) call run.old }
+    ensures answer { told result ≡ answered (outcome_at terms.now stage tally.old (T.Table.contents table.old) call (length run.old)) }
+    ensures tally { tally.new ≡ tally_after tally.old (outcome_at terms.now stage tally.old (T.Table.contents table.old) call (length run.old)) }
+    ensures table { T.Table.contents table.new ≡ table_after (T.Table.contents table.old) (outcome_at terms.now stage tally.old (T.Table.contents table.old) call (length run.old)) }
+    ensures run { run.new ≡ run_after run.old (outcome_at terms.now stage tally.old (T.Table.contents table.old) call (length run.old)) }
 {
     match call {
         Call::Enter {

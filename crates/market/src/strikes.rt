@@ -1,8 +1,10 @@
 // Striking a fixing.
-ghost use Rattle.std.specs.Prelude.{◌≡◌, ◌+◌, ◌≤◌, length};
-ghost use Rattle.tables.specs.Meaning.{listed};
-ghost use Rattle.book.specs.Day.{fixing_price};
-ghost use Rattle.market.specs.Strikes.{orders_of, struck, paired, lapsed, lapse_on, paired_at, lapse_all, struck_at};
+ghost use Rattle.std.specs.Prelude.{◌≡◌, ◌≤◌, ◌++◌, Some, length};
+ghost use Rattle.tables.specs.Meaning.{listed, holding, book_of, each_side};
+ghost use Rattle.book.specs.Rows.{orders_of};
+ghost use Rattle.book.specs.Day.{fixing_price, fixing_trades, match_at, turnover, lapses, limits, strike_slips, struck_book};
+ghost use Rattle.market.specs.Fills.{with_listed};
+ghost use Rattle.market.specs.Outcome.{written_into};
 
 use crate::curve::TableCurve;
 use crate::fills::take;
@@ -33,8 +35,10 @@ fn price_of<T: Table>(terms: &Terms, table: &T) -> Option<u32>
 fn pair<T: Table>(table: &mut T, price: u32, run: &mut [Slip]) -> (u128, usize)
     requires room { orders_of (T.Table.contents table.old) ≤ length run.old }
     requires few { orders_of (T.Table.contents table.old) ≤ 1000000 }
-    ensures whole { struck result.0 result.1 (T.Table.contents table.new) run.new ≡ paired price 0 0 (T.Table.contents table.old) run.old }
-    ensures fewer { result.1 + orders_of (T.Table.contents table.new) ≤ orders_of (T.Table.contents table.old) }
+    ensures traded { result.0 ≡ turnover (match_at (Some price) (T.Table.contents table.old).book.buys (T.Table.contents table.old).book.sells).slips }
+    ensures written { result.1 ≡ length (match_at (Some price) (T.Table.contents table.old).book.buys (T.Table.contents table.old).book.sells).slips }
+    ensures table { T.Table.contents table.new ≡ holding (T.Table.contents table.old) (book_of (match_at (Some price) (T.Table.contents table.old).book.buys (T.Table.contents table.old).book.sells).buys (match_at (Some price) (T.Table.contents table.old).book.buys (T.Table.contents table.old).book.sells).sells) }
+    ensures run { run.new ≡ written_into run.old (match_at (Some price) (T.Table.contents table.old).book.buys (T.Table.contents table.old).book.sells).slips }
 {
     let mut traded: u128 = 0;
     let mut written = 0;
@@ -60,13 +64,15 @@ fn pair<T: Table>(table: &mut T, price: u32, run: &mut [Slip]) -> (u128, usize)
     }
 }
 
-// The market orders of a side lapse, in rank order; the slips written by then.
-fn lapse<T: Table>(table: &mut T, direction: Direction, before: usize, run: &mut [Slip]) -> usize
-    requires room { before + length (listed direction (T.Table.contents table.old)) ≤ length run.old }
+// The market orders of a side lapse, in rank order. The slips written.
+fn lapse<T: Table>(table: &mut T, direction: Direction, run: &mut [Slip]) -> usize
+    requires room { length (listed direction (T.Table.contents table.old)) ≤ length run.old }
     requires few { length (listed direction (T.Table.contents table.old)) ≤ 1000000 }
-    ensures { lapsed result (T.Table.contents table.new) run.new ≡ lapse_on direction before (T.Table.contents table.old) run.old }
+    ensures written { result ≡ length (lapses (listed direction (T.Table.contents table.old))) }
+    ensures table { T.Table.contents table.new ≡ with_listed direction (limits (listed direction (T.Table.contents table.old))) (T.Table.contents table.old) }
+    ensures run { run.new ≡ written_into run.old (lapses (listed direction (T.Table.contents table.old))) }
 {
-    let mut written = before;
+    let mut written = 0;
     let mut rank = 0;
     'orders: while let Some(order) = table.at(direction, rank) {
         if !order.market {
@@ -89,8 +95,10 @@ fn lapse<T: Table>(table: &mut T, direction: Direction, before: usize, run: &mut
 fn pair_at<T: Table>(table: &mut T, price: Option<u32>, run: &mut [Slip]) -> (u128, usize)
     requires room { orders_of (T.Table.contents table.old) ≤ length run.old }
     requires few { orders_of (T.Table.contents table.old) ≤ 1000000 }
-    ensures whole { struck result.0 result.1 (T.Table.contents table.new) run.new ≡ paired_at price (T.Table.contents table.old) run.old }
-    ensures fewer { result.1 + orders_of (T.Table.contents table.new) ≤ orders_of (T.Table.contents table.old) }
+    ensures traded { result.0 ≡ turnover (match_at price (T.Table.contents table.old).book.buys (T.Table.contents table.old).book.sells).slips }
+    ensures written { result.1 ≡ length (match_at price (T.Table.contents table.old).book.buys (T.Table.contents table.old).book.sells).slips }
+    ensures table { T.Table.contents table.new ≡ holding (T.Table.contents table.old) (book_of (match_at price (T.Table.contents table.old).book.buys (T.Table.contents table.old).book.sells).buys (match_at price (T.Table.contents table.old).book.buys (T.Table.contents table.old).book.sells).sells) }
+    ensures run { run.new ≡ written_into run.old (match_at price (T.Table.contents table.old).book.buys (T.Table.contents table.old).book.sells).slips }
 {
     match price {
         Some(p) => pair(table, p, run),
@@ -98,14 +106,16 @@ fn pair_at<T: Table>(table: &mut T, price: Option<u32>, run: &mut [Slip]) -> (u1
     }
 }
 
-// The market orders of both sides lapse, buys first.
-fn lapse_both<T: Table>(table: &mut T, before: usize, run: &mut [Slip]) -> usize
-    requires room { before + orders_of (T.Table.contents table.old) ≤ length run.old }
+// The market orders of both sides lapse, buys first. The slips written.
+fn lapse_both<T: Table>(table: &mut T, run: &mut [Slip]) -> usize
+    requires room { orders_of (T.Table.contents table.old) ≤ length run.old }
     requires few { orders_of (T.Table.contents table.old) ≤ 1000000 }
-    ensures { lapsed result (T.Table.contents table.new) run.new ≡ lapse_all before (T.Table.contents table.old) run.old }
+    ensures written { result ≡ length (lapses (T.Table.contents table.old).book.buys ++ lapses (T.Table.contents table.old).book.sells) }
+    ensures table { T.Table.contents table.new ≡ holding (T.Table.contents table.old) (each_side limits (T.Table.contents table.old).book) }
+    ensures run { run.new ≡ written_into run.old (lapses (T.Table.contents table.old).book.buys ++ lapses (T.Table.contents table.old).book.sells) }
 {
-    let written = lapse(table, Direction::Buy, before, run);
-    lapse(table, Direction::Sell, written, run)
+    let buys = lapse(table, Direction::Buy, run);
+    buys + lapse(table, Direction::Sell, &mut run[buys..])
 }
 
 // Trades at the fixing price, if there is one, and then lets the market orders lapse.
@@ -113,14 +123,17 @@ pub fn strike<T: Table>(terms: &Terms, table: &mut T, run: &mut [Slip]) -> Struc
     requires room { orders_of (T.Table.contents table.old) ≤ length run.old }
     requires few { orders_of (T.Table.contents table.old) ≤ 1000000 }
     ensures price { result.price ≡ fixing_price terms.now (T.Table.contents table.old).book }
-    ensures whole { struck result.traded result.written (T.Table.contents table.new) run.new ≡ struck_at result.price (T.Table.contents table.old) run.old }
+    ensures traded { result.traded ≡ turnover (strike_slips (fixing_trades terms.now (T.Table.contents table.old).book)) }
+    ensures written { result.written ≡ length (strike_slips (fixing_trades terms.now (T.Table.contents table.old).book)) }
+    ensures table { T.Table.contents table.new ≡ holding (T.Table.contents table.old) (struck_book (fixing_trades terms.now (T.Table.contents table.old).book)) }
+    ensures run { run.new ≡ written_into run.old (strike_slips (fixing_trades terms.now (T.Table.contents table.old).book)) }
 {
     let price = price_of(terms, table);
-    let (traded, written) = pair_at(table, price, run);
-    let written = lapse_both(table, written, run);
+    let (traded, trades) = pair_at(table, price, run);
+    let lapsed = lapse_both(table, &mut run[trades..]);
     Struck {
         price,
         traded,
-        written,
+        written: trades + lapsed,
     }
 }

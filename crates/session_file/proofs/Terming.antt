@@ -7,7 +7,7 @@ use Rattle.rules.specs.Band.{within, lowest, highest}
 use Rattle.rules.specs.Terms as terms
 use Rattle.rules.specs.declared.refusal.Refusal.{Refusal}
 use Rattle.rules.specs.declared.terms.Terms.{Terms}
-use Rattle.market.specs.Rows.{told}
+use Rattle.market.specs.Outcome.{told}
 use Rattle.session_file.specs.Laws.{figures, TermsByTheRules}
 use Rattle.session_file.specs.Opening.{judged, terms_from}
 

@@ -1,30 +1,44 @@
-use Rattle.std.proofs.Common.{◌≡◌, ◌+◌, length, sym, ap, ◌∙◌, subst, true, arith}
+use Rattle.std.proofs.Common.{◌≡◌, length, sym, ap, ◌∙◌, subst, true, arith}
+use Rattle.std.proofs.lemmas.Slice.{between_to_end}
+use Rattle.std.proofs.lemmas.List.{length-drop}
 use Rattle.rules.specs.Side.{opposite}
 use Rattle.tables.specs.Meaning.{listed, takes}
-use Rattle.book.specs.Day.{sweep}
-use Rattle.market.specs.Fills.{ended, swept, with_listed}
-use Rattle.market.proofs.Arriving.{sweep_count}
+use Rattle.book.specs.Day.{sweep_of, dealt, lapse_left}
+use Rattle.book.proofs.Rooms.{sweep_short}
+use Rattle.market.specs.Outcome.{written_into}
 use Rattle.market.proofs.Keeping.{sweep_part, takes_still}
-use Rattle.market.proofs.Runs.{put_length}
+use Rattle.market.proofs.Writing.{length_into, then_written}
 use Rattle.market.proofs.entries.arrive_on.Goals as goal
 
-pub settle-requires-clause-room : goal.settle-requires-clause-room
-settle-requires-clause-room g c =
+pub settle-lapsed-requires-clause-room : goal.settle-lapsed-requires-clause-room
+settle-lapsed-requires-clause-room g c =
     let o = c.args.order in
     let t = g.T.Table.contents c.args.table.now in
-    let d = o.direction in
-    let w = sweep d o.number o.price (listed (opposite d) t) o.volume in
-    let e : ended _ _ _ _ ≡ swept d o.number o.price o.volume 0 t c.args.run.now = c.sweep-swept.ensures.whole ∙ ap (λ z. swept z o.number o.price o.volume 0 t c.args.run.now) (sym c.requires.side) in
-    let after : g.T.Table.contents c.sweep-swept.new.table ≡ with_listed (opposite d) w.rest t = ap (λ x. x.after) e in
-    subst (λ z. takes z o ≡ true) (sym after) (takes_still t o w.rest (sweep_part d o.number o.price (listed (opposite d) t) o.volume) c.requires.room)
+    let w = sweep_of o t in
+    let after = c.sweep-swept.ensures.table ∙ ap (λ d. dealt d w.rest t) (sym c.requires.side) in
+    subst (λ z. takes z o ≡ true) (sym after)
+    (takes_still t o w.rest (sweep_part o.direction o.number o.price (listed (opposite o.direction) t) o.volume) c.requires.room)
 
-pub settle-requires-clause-place : goal.settle-requires-clause-place
-settle-requires-clause-place g c =
+pub settle-lapsed-requires-clause-place : goal.settle-lapsed-requires-clause-place
+settle-lapsed-requires-clause-place g c =
     let o = c.args.order in
     let t = g.T.Table.contents c.args.table.now in
-    let d = o.direction in
-    let w = sweep d o.number o.price (listed (opposite d) t) o.volume in
-    let e : ended _ _ _ _ ≡ swept d o.number o.price o.volume 0 t c.args.run.now = c.sweep-swept.ensures.whole ∙ ap (λ z. swept z o.number o.price o.volume 0 t c.args.run.now) (sym c.requires.side) in
-    let k : c.sweep-swept.result.written ≡ 0 + length w.slips = ap (λ x. x.written) e in
-    let n : length c.sweep-swept.new.run ≡ length c.args.run.now = ap (λ x. length x.run) e ∙ put_length 0 w.slips c.args.run.now in
-    omega (arith, sweep_count d o.number o.price (listed (opposite d) t) o.volume, c.requires.long)
+    let w = sweep_of o t in
+    let run = c.sweep-swept.new.run in
+    let a = c.sweep-swept.result.written in
+    let few = (sweep_short o.direction o.number o.price (listed (opposite o.direction) t) o.volume).fits in
+    let same = ap length c.sweep-swept.ensures.run ∙ length_into c.args.run.now w.slips (omega (arith, few, c.requires.long)) in
+    let e = between_to_end run a (length run) (omega arith) in
+    rw e (rw length-drop (omega (arith, few, same, c.requires.long, c.sweep-swept.ensures.written)))
+
+pub returns-clause-run : goal.returns-clause-run
+returns-clause-run g c =
+    let o = c.args.order in
+    let t = g.T.Table.contents c.args.table.now in
+    let w = sweep_of o t in
+    let run = c.sweep-swept.new.run in
+    let a = c.sweep-swept.result.written in
+    let few = (sweep_short o.direction o.number o.price (listed (opposite o.direction) t) o.volume).fits in
+    then_written c.args.run.now w.slips (lapse_left o w.left) (omega (arith, few, c.requires.long)) a run c.settle-lapsed.new.run c.sweep-swept.ensures.written
+    c.sweep-swept.ensures.run
+    (c.settle-lapsed.ensures.run ∙ (λ i. written_into (between_to_end run a (length run) (omega arith) i) (lapse_left o (c.sweep-swept.ensures.left i))))

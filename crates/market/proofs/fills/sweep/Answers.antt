@@ -1,11 +1,15 @@
-use Rattle.std.proofs.Common.{◌≡◌, ℕ, ◌==◌, true, false, not, ◌||◌, length, Some, None, sym, ap, ◌∙◌, subst, arith, length-set}
+use Rattle.std.proofs.Common.{◌≡◌, ◌==◌, true, false, not, ◌||◌, ◌-◌, ◌<◌, [], ◌∷◌, ◌++◌, length, take, Some, None, sym, ap, ◌∙◌, subst, arith, length-set, append-nil}
 use Rattle.std.proofs.lemmas.Bool.{eq-eqb, ne_eqb, or_left, or_right, or_from, not_from_true, not_from_false}
+use Rattle.std.proofs.lemmas.List.{take_more_set, length-take-le}
 use Rattle.std.specs.List.{slice_get}
 use Rattle.rules.specs.Side.{opposite, willing}
 use Rattle.tables.specs.Meaning.{listed}
-use Rattle.market.specs.Fills.{took, took_on, ended}
+use Rattle.book.specs.Day.{Swept, sweep, sweep_of}
+use Rattle.market.specs.Fills.{took, took_on, with_listed}
+use Rattle.market.specs.Outcome.{written_into}
 use Rattle.market.proofs.Taking.{listed_side}
-use Rattle.market.proofs.Sweeping.{swept_none, swept_stop, swept_turn, took_length, took_smaller, listed_on}
+use Rattle.market.proofs.Writing.{written_so_far, same_behind}
+use Rattle.market.proofs.Sweeping.{after, after_more, still, sweep_none, sweep_stop, sweep_turn, took_length, took_smaller, first_length, listed_on, on_twice}
 use Rattle.market.proofs.fills.sweep.Goals as goal
 use Rattle.market.proofs.fills.sweep.Goals.{in_default, in-Some+then-left-eq0, then-left-eq0-via-then-left-eq0, then-left-eq0-via-else-left-eq0+then-not-meets}
 
@@ -41,37 +45,50 @@ orders-preserved g c =
     let t = g.T.Table.contents c.orders.table in
     let m = c.min-volume.result in
     let v = c.orders.left in
+    let n = c.args.order.now.number in
+    let p = c.args.order.now.price in
+    let k = c.orders.written in
+    let inv = c.orders.invariant in
     let x = g.met.S.Side.across in
     let first : slice_get (listed a t) 0 ≡ Some o = cc in
     let side : o.direction ≡ a = listed_side t (g.met.T.Table.sound c.orders.table) a 0 o first in
-    let after : g.T.Table.contents c.take.new.table ≡ took_on a m t = c.take.ensures ∙ ap (λ d. took_on d m t) side in
-    let less : length (listed a (g.T.Table.contents c.take.new.table)) ≡ length (took m (listed a t)) = ap (λ z. length (listed a z)) after ∙ ap length (listed_on a (took m (listed a t)) t) in
-    let w : willing a o.price c.args.order.now.price ≡ true = let y = c.if-not-meets.false in let z = c.meets.ensures in cc in
-    let goes : (v == 0 || not (willing a o.price c.args.order.now.price)) ≡ false = or_from _ _ (ne_eqb v 0 c.if-left-eq0.false) (not_from_true _ w) in
-    let turn = swept_turn d c.args.order.now.number c.args.order.now.price o v c.orders.written m t c.orders.run first goes c.min-volume.ensures in
-    let whole = c.orders.invariant.whole in
-    let put = c.trade.ensures in
+    let table : g.T.Table.contents c.take.new.table ≡ took_on a m t = c.take.ensures ∙ ap (λ d. took_on d m t) side in
+    let rest : listed a (g.T.Table.contents c.take.new.table) ≡ took m (listed a t) = ap (listed a) table ∙ listed_on a (took m (listed a t)) t in
+    let w : willing a o.price p ≡ true = let y = c.if-not-meets.false in let z = c.meets.ensures in cc in
+    let goes : (v == 0 || not (willing a o.price p)) ≡ false = or_from _ _ (ne_eqb v 0 c.if-left-eq0.false) (not_from_true _ w) in
+    let turn = sweep_turn d n p (listed a t) o v m first goes c.min-volume.ensures in
+    let below : k < length c.orders.run = omega (arith, inv.room (omega (arith, c.if-left-eq0.false)), first_length (listed a t) o first) in
     record {
-      whole = cc;
-      room = λ p. rw (length-set, less) (omega (arith, took_length (listed a t) o v m first c.min-volume.ensures p, c.orders.invariant.room (omega arith)));
-      most = omega (arith, c.orders.invariant.most);
+      sweep =
+          inv.sweep ∙ ap (after (take k c.orders.run)) turn ∙ sym (after_more (take k c.orders.run) _ (sweep d n p (took m (listed a t)) (v - m)))
+          ∙ (λ i. after (take k c.orders.run ++ (sym c.trade.ensures i ∷ [])) (sweep d n p (sym rest i) (v - m)))
+          ∙ ap (λ ss. after ss (sweep d n p (listed a (g.T.Table.contents c.take.new.table)) (v - m))) (sym (take_more_set c.orders.run k c.trade.result below));
+      table =
+          table ∙ ap (with_listed a (took m (listed a t))) inv.table ∙ on_twice a (took m (listed a t)) (listed a t) (g.T.Table.contents c.args.table.now)
+          ∙ ap (λ xs. with_listed a xs (g.T.Table.contents c.args.table.now)) (sym rest);
+      run = same_behind k c.orders.run c.args.run.now inv.run c.trade.result;
+      fits = rw length-set (omega (arith, below));
+      room = λ q. rw (length-set, rest) (omega (arith, took_length (listed a t) o v m first c.min-volume.ensures q, inv.room (omega arith)));
+      most = omega (arith, inv.most);
     }
 
-pub returns-clause-whole : goal.returns-clause-whole
-returns-clause-whole g c =
+pub returns : goal.returns
+returns g c =
     let d = g.S.Quotes.way in
     let a = opposite d in
     let t = g.T.Table.contents c.orders.table in
+    let old = g.T.Table.contents c.args.table.now in
     let v = c.orders.left in
     let n = c.args.order.now.number in
     let p = c.args.order.now.price in
+    let k = c.orders.written in
+    let inv = c.orders.invariant in
     let x = g.met.S.Side.across in
-    let whole = c.orders.invariant.whole in
+    let end : sweep d n p (listed a t) v ≡ still (listed a t) v =
     elim c.match-at.branch [
       | in_default w ↦
           let none : slice_get (listed a t) 0 ≡ None = ap (λ z. slice_get (listed z t) 0) (sym (c.direction.ensures ∙ x)) ∙ sym c.at.ensures ∙ w.in_default.is in
-          let end = swept_none d n p v c.orders.written t c.orders.run none in
-          ap (λ (z : ℕ × ℕ). ended z.1 c.orders.written t c.orders.run) w.traded-is ∙ sym end ∙ whole
+          sweep_none d n p (listed a t) v none
       | in-Some+then-left-eq0 w ↦
           let o = w.in-Some.first in
           let first : slice_get (listed a t) 0 ≡ Some o = let i = w.in-Some.is in cc in
@@ -82,6 +99,15 @@ returns-clause-whole g c =
                 let e : willing a o.price p ≡ false = let y = u.if-not-meets.true in let z = u.meets.ensures in cc in
                 or_right _ _ (not_from_false _ e)
           ] in
-          let end = swept_stop d n p o v c.orders.written t c.orders.run first stop in
-          ap (λ (z : ℕ × ℕ). ended z.1 c.orders.written t c.orders.run) w.traded-is ∙ sym end ∙ whole
-    ]
+          sweep_stop d n p (listed a t) o v first stop
+    ] in
+    let whole : sweep_of c.args.order.now old ≡ after (take k c.orders.run) (still (listed a t) v) =
+    ap (λ z. sweep z n p (listed (opposite z) old) c.args.order.now.volume) c.requires.side ∙ inv.sweep ∙ ap (after (take k c.orders.run)) end in
+    let slips : take k c.orders.run ≡ (sweep_of c.args.order.now old).slips = sym (ap (λ (s : Swept). s.slips) whole ∙ append-nil (take k c.orders.run)) in
+    record {
+      traded = c.from.ensures;
+      left = sym (ap (λ (s : Swept). s.left) whole);
+      written = sym (length-take-le k c.orders.run inv.fits) ∙ ap length slips;
+      table = inv.table ∙ ap (λ xs. with_listed a xs old) (sym (ap (λ (s : Swept). s.rest) whole));
+      run = written_so_far k c.orders.run c.args.run.now inv.run inv.fits ∙ ap (written_into c.args.run.now) slips;
+    }

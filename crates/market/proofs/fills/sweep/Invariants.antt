@@ -1,16 +1,22 @@
-use Rattle.std.proofs.Common.{◌≡◌, ◌+◌, min, ◌<◌, ◌≤◌, length}
+use Rattle.std.proofs.Common.{◌≡◌, ◌+◌, min, ◌<◌, ◌≤◌, length, take, drop}
 use Rattle.rules.specs.Side.{opposite}
 use Rattle.tables.specs.Meaning.{listed}
-use Rattle.market.specs.Fills.{swept}
+use Rattle.book.specs.Day.{sweep}
+use Rattle.market.specs.Fills.{with_listed}
+use Rattle.market.proofs.Sweeping.{after}
 use Rattle.market.proofs.fills.sweep.Given as goal
 
 abbrev pub invariant-orders : goal.invariant-orders
 invariant-orders g l =
     let d = g.S.Quotes.way in
+    let a = opposite d in
     let m = g.T.Table.contents in
     record {
-      whole : swept d l.order.number l.order.price l.left l.written (m l.table) l.run ≡ swept d l.order.number l.order.price l.order.volume 0 (m l.initial.table) l.initial.run;
-      room : 0 < l.left → l.written + length (listed (opposite d) (m l.table)) ≤ length l.run;
+      sweep : sweep d l.order.number l.order.price (listed a (m l.initial.table)) l.order.volume ≡ after (take l.written l.run) (sweep d l.order.number l.order.price (listed a (m l.table)) l.left);
+      table : m l.table ≡ with_listed a (listed a (m l.table)) (m l.initial.table);
+      run : drop l.written l.run ≡ drop l.written l.initial.run;
+      fits : l.written ≤ length l.run;
+      room : 0 < l.left → l.written + length (listed a (m l.table)) ≤ length l.run;
       most : l.left ≤ l.order.volume;
     }
 

@@ -1,6 +1,6 @@
 use Rattle.std.proofs.Common.{arith, take, length, refl, ap, ◌∙◌}
 use Rattle.std.proofs.lemmas.List.{length-take}
-use Rattle.market.specs.Rows.{told}
+use Rattle.market.specs.Outcome.{told}
 use Rattle.market.specs.Works.{came_to}
 use Rattle.market.proofs.Journals.{follows, run_is}
 use Rattle.market.proofs.Working.{fits}

@@ -1,11 +1,17 @@
-use Rattle.std.proofs.Common.{◌≡◌, ◌+◌, length, set, Some, None, sym, ap, ◌∙◌, arith, length-set}
+use Rattle.std.proofs.Common.{◌≡◌, ◌<◌, [], ◌∷◌, ◌++◌, length, take, Some, None, sym, ap, ◌∙◌, arith, length-set, append-nil, append_assoc, add-one}
 use Rattle.std.proofs.lemmas.Bool.{not-true, not-false}
+use Rattle.std.proofs.lemmas.List.{take_more_set, length-take-le}
 use Rattle.std.specs.List.{slice_get, remove}
 use Rattle.tables.specs.Meaning.{listed, said}
 use Rattle.book.specs.declared.slip.Slip.TheVariants.{Lapse}
+use Rattle.book.specs.Day.{lapses}
+use Rattle.market.specs.Fills.{with_listed}
+use Rattle.market.specs.Outcome.{written_into}
 use Rattle.market.proofs.Taking.{get_below, is_held, removed_at_rank}
-use Rattle.market.proofs.Sweeping.{listed_on}
-use Rattle.market.proofs.Lapsing.{walk, walk_end, walk_next, walk_gone, remove_length}
+use Rattle.market.proofs.Writing.{written_so_far, same_behind}
+use Rattle.market.proofs.Sweeping.{listed_on, on_twice}
+use Rattle.market.proofs.Altering.{remove_length}
+use Rattle.market.proofs.Lapsing.{lapses_from, limits_from, lapses_next, limits_next, lapses_gone, limits_gone, lapses_end, limits_end}
 use Rattle.market.proofs.strikes.lapse.Goals as goal
 
 pub orders-preserved-then-not-order : goal.orders-preserved-then-not-order
@@ -13,15 +19,19 @@ orders-preserved-then-not-order g c =
     let d = c.args.direction in
     let t = g.T.Table.contents c.orders.table in
     let o = c.in-Some.order in
-    let h : slice_get (listed d t) c.orders.rank ≡ Some o = sym c.at.ensures ∙ c.in-Some.is in
-    let next = walk_next d c.orders.rank c.orders.written t c.orders.run o h (not-true _ c.if-not-order.true) in
-    let below = get_below (listed d t) c.orders.rank o h in
+    let i = c.orders.rank in
+    let h : slice_get (listed d t) i ≡ Some o = sym c.at.ensures ∙ c.in-Some.is in
+    let limit = not-true _ c.if-not-order.true in
     let inv = c.orders.invariant in
     record {
-      whole = sym next ∙ inv.whole;
+      slips = inv.slips ∙ ap (λ ss. take c.orders.written c.orders.run ++ ss) (sym (lapses_next i (listed d t) o h limit)) ∙ ap (λ j. take c.orders.written c.orders.run ++ lapses_from j (listed d t)) (sym (add-one i));
+      rest = inv.rest ∙ sym (limits_next i (listed d t) o h limit) ∙ ap (λ j. limits_from j (listed d t)) (sym (add-one i));
+      table = inv.table;
+      run = inv.run;
+      fits = inv.fits;
       room = omega (arith, inv.room);
       few = inv.few;
-      rank = omega (arith, below);
+      rank = omega (arith, get_below (listed d t) i o h);
     }
 
 pub bounds-run-written : goal.bounds-run-written
@@ -46,20 +56,33 @@ pub orders-preserved : goal.orders-preserved
 orders-preserved g c =
     let d = c.args.direction in
     let t = g.T.Table.contents c.orders.table in
+    let old = g.T.Table.contents c.args.table.now in
     let o = c.in-Some.order in
     let i = c.orders.rank in
+    let k = c.orders.written in
+    let slip = Lapse o.number o.volume in
     let h : slice_get (listed d t) i ≡ Some o = sym c.at.ensures ∙ c.in-Some.is in
-    let after = c.remove.ensures.after ∙ removed_at_rank t (g.met.T.Table.sound c.orders.table) d i o h in
-    let is = ap (λ z. length (listed d z)) after ∙ ap length (listed_on d (remove (listed d t) i) t) in
-    let gone = walk_gone d i c.orders.written t c.orders.run o h (not-false _ c.if-not-order.false) in
+    let market = not-false _ c.if-not-order.false in
+    let table = c.remove.ensures.after ∙ removed_at_rank t (g.met.T.Table.sound c.orders.table) d i o h in
+    let left : listed d (g.T.Table.contents c.remove.new.self) ≡ remove (listed d t) i = ap (listed d) table ∙ listed_on d (remove (listed d t) i) t in
     let less = remove_length i (listed d t) o h in
     let below = get_below (listed d t) i o h in
     let inv = c.orders.invariant in
+    let place : k < length c.orders.run = omega (arith, below, inv.room) in
     record {
-      whole = ap (λ z. walk d i (c.orders.written + 1) z (set c.orders.run c.orders.written (Lapse o.number o.volume))) after ∙ sym gone ∙ inv.whole;
-      room = rw length-set (omega (arith, is, less, inv.room));
-      few = omega (arith, is, less, inv.few);
-      rank = omega (arith, is, less, below);
+      slips =
+          inv.slips ∙ ap (λ ss. take k c.orders.run ++ ss) (lapses_gone i (listed d t) o h market)
+          ∙ sym (append_assoc (take k c.orders.run) (slip ∷ []) (lapses_from i (remove (listed d t) i)))
+          ∙ (λ j. sym (take_more_set c.orders.run k slip place) j ++ lapses_from i (sym left j));
+      rest = inv.rest ∙ sym (limits_gone i (listed d t) o h market) ∙ ap (limits_from i) (sym left);
+      table =
+          table ∙ ap (with_listed d (remove (listed d t) i)) inv.table ∙ on_twice d (remove (listed d t) i) (listed d t) old
+          ∙ ap (λ xs. with_listed d xs old) (sym left);
+      run = same_behind k c.orders.run c.args.run.now inv.run slip;
+      fits = rw length-set (omega (arith, place));
+      room = rw length-set (omega (arith, ap length left, less, inv.room));
+      few = omega (arith, ap length left, less, inv.few);
+      rank = omega (arith, ap length left, less, below);
     }
 
 pub unreachable-requires : goal.unreachable-requires
@@ -74,5 +97,15 @@ pub returns : goal.returns
 returns g c =
     let d = c.args.direction in
     let t = g.T.Table.contents c.orders.table in
-    let h : slice_get (listed d t) c.orders.rank ≡ None = sym c.at.ensures ∙ c.in_default.is in
-    sym (walk_end d c.orders.rank c.orders.written t c.orders.run h) ∙ c.orders.invariant.whole
+    let old = g.T.Table.contents c.args.table.now in
+    let i = c.orders.rank in
+    let k = c.orders.written in
+    let inv = c.orders.invariant in
+    let h : slice_get (listed d t) i ≡ None = sym c.at.ensures ∙ c.in_default.is in
+    let slips : take k c.orders.run ≡ lapses (listed d old) =
+    sym (inv.slips ∙ ap (λ ss. take k c.orders.run ++ ss) (lapses_end i (listed d t) h) ∙ append-nil (take k c.orders.run)) in
+    record {
+      written = sym (length-take-le k c.orders.run inv.fits) ∙ ap length slips;
+      table = inv.table ∙ ap (λ xs. with_listed d xs old) (sym (inv.rest ∙ limits_end i (listed d t) h));
+      run = written_so_far k c.orders.run c.args.run.now inv.run inv.fits ∙ ap (written_into c.args.run.now) slips;
+    }
