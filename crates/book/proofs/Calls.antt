@@ -13,7 +13,8 @@ use Rattle.book.specs.declared.slip.Slip.TheVariants.{Lapse}
 use Rattle.book.specs.declared.call.Call.{Call}
 use Rattle.book.specs.declared.call.Call.TheVariants.{Enter, Alter, Withdraw}
 use Rattle.book.specs.declared.answer.Answer.{Answer}
-use Rattle.book.specs.declared.answer.Answer.TheVariants.{Entered, Altered, Withdrawn}
+use Rattle.book.specs.Counts.{with_count}
+use Rattle.book.specs.declared.answer.Told.TheVariants.{Entered, Altered, Withdrawn}
 use Rattle.book.proofs.Ranks.{InRank, without_in, insert_in, in_insert, none_numbered}
 use Rattle.book.proofs.Members.{listing, Exactly, Member}
 use Rattle.rules.specs.Rank.{before}
@@ -82,13 +83,13 @@ module _ (t : Terms) (L : Ledger) (tab : Contents) (inv : Inv t L tab) where
       let own : List Order = without n old in
       let against : List Order = side (opposite d) tab.book in
       subst
-      (λ (T : Contents). Kept t L (Withdraw member n) (Withdrawn o.volume 0) M [] (record { stage = L.stage; tally = L.tally; table = T }))
+      (λ (T : Contents). Kept t L (Withdraw member n) (with_count (Withdrawn o.volume) []) M [] (record { stage = L.stage; tally = L.tally; table = T }))
       (sym (removed_is o l h))
       (record {
         upheld = record {
           each = tt;
           fixing = tt;
-          answer = sym (ap (λ a. Withdrawn (balance a) 0) l.account);
+          answer = sym (ap (λ a. with_count (Withdrawn (balance a)) []) l.account);
           shown =
               shown_of M d own against (gone d L o old l (listing (inv.shown.sides d)))
               (down_against d o.volume L o against l (listing (inv.shown.sides (opposite d))))
@@ -142,7 +143,7 @@ uninsert d L o own s h ex =
 abbrev pub Due : Ledger → Call → Ledger → ℕ → Reply → Type 0
 Due L c M n reply =
     (m : Mode) (slips : List Slip) (sum held : ℕ) → sum ≡ traded slips → held ≡ balance ((post_all slips M).accounts n) →
-    reply sum held (length slips) ≡ due c m L slips (post_all slips M)
+    with_count (reply sum held) slips ≡ due c m L slips (post_all slips M)
 
 -- the order after its sweep, by whether it is a market order
 settled_as :
@@ -278,11 +279,11 @@ module _ (t : Terms) (L : Ledger) (c : Call) (M : Ledger) (tab : Contents) (e : 
 
     limit_kept :
         e.market ≡ false →
-        Kept t L c (reply (e.volume - s.left) s.left (length s.slips)) M s.slips (left_with (stand d e s.left own) s.rest)
+        Kept t L c (with_count (reply (e.volume - s.left) s.left) s.slips) M s.slips (left_with (stand d e s.left own) s.rest)
     limit_kept h =
         record {
           upheld =
-              upheld_as (reply (e.volume - s.left) s.left (length s.slips)) s.slips _
+              upheld_as (with_count (reply (e.volume - s.left) s.left) s.slips) s.slips _
               (record {
                 each = sw.along;
                 fixing = tt;
@@ -305,11 +306,11 @@ module _ (t : Terms) (L : Ledger) (c : Call) (M : Ledger) (tab : Contents) (e : 
         Listed d (post_all ys (post_all s.slips M)) own →
         Listed (opposite d) (post_all ys (post_all s.slips M)) s.rest →
         balance ((post_all ys (post_all s.slips M)).accounts e.number) ≡ 0 →
-        Kept t L c (reply (e.volume - s.left) 0 (length (s.slips ++ ys))) M (s.slips ++ ys) (left_with own s.rest)
+        Kept t L c (with_count (reply (e.volume - s.left) 0) (s.slips ++ ys)) M (s.slips ++ ys) (left_with own s.rest)
     more_kept ys none al lo la spent =
         record {
           upheld =
-              upheld_as (reply (e.volume - s.left) 0 (length (s.slips ++ ys))) (s.slips ++ ys) _
+              upheld_as (with_count (reply (e.volume - s.left) 0) (s.slips ++ ys)) (s.slips ++ ys) _
               (record {
                 each = along_append (SlipRight continuous) s.slips ys M sw.along al;
                 fixing = tt;
@@ -346,7 +347,7 @@ module _ (t : Terms) (L : Ledger) (c : Call) (M : Ledger) (tab : Contents) (e : 
         e.market ≡ true →
         0 < s.left →
         Listed d (post_all s.slips M) (insert (before d) (with_volume s.left e) own) →
-        Kept t L c (reply (e.volume - s.left) 0 (length (s.slips ++ (Lapse e.number s.left ∷ [])))) M
+        Kept t L c (with_count (reply (e.volume - s.left) 0) (s.slips ++ (Lapse e.number s.left ∷ []))) M
         (s.slips ++ (Lapse e.number s.left ∷ [])) (left_with own s.rest)
     lapse_kept mk some le =
         let K : Ledger = post_all s.slips M in
@@ -377,11 +378,11 @@ module _ (t : Terms) (L : Ledger) (c : Call) (M : Ledger) (tab : Contents) (e : 
     market_kept :
         e.market ≡ true →
         let last-slips : List Slip = s.slips ++ cond (eqb s.left 0) [] (Lapse e.number s.left ∷ []) in
-        Kept t L c (reply (e.volume - s.left) 0 (length last-slips)) M last-slips
+        Kept t L c (with_count (reply (e.volume - s.left) 0) last-slips) M last-slips
         (left_with own s.rest)
     market_kept mk =
         cond_both _ _ _
-        (λ ys. Kept t L c (reply (e.volume - s.left) 0 (length (s.slips ++ ys))) M (s.slips ++ ys) (left_with own s.rest))
+        (λ ys. Kept t L c (with_count (reply (e.volume - s.left) 0) (s.slips ++ ys)) M (s.slips ++ ys) (left_with own s.rest))
         (λ z.
         more_kept [] refl tt
         (subst (Listed d (post_all s.slips M)) (cond-true (eqb s.left 0) own (insert (before d) (with_volume s.left e) own) z) sw.own_side)
@@ -411,11 +412,11 @@ module _ (t : Terms) (L : Ledger) (c : Call) (M : Ledger) (tab : Contents) (e : 
       (λ mk.
       let more : List Slip = s.slips ++ cond (eqb s.left 0) [] (Lapse e.number s.left ∷ []) in
       subst
-      (λ (T : Contents). Kept t L c (reply (e.volume - s.left) 0 (length more)) M more (record { stage = L.stage; tally = M.tally; table = T }))
+      (λ (T : Contents). Kept t L c (with_count (reply (e.volume - s.left) 0) more) M more (record { stage = L.stage; tally = M.tally; table = T }))
       (sym (dealt_table tab e.direction own opp s.rest)) (market_kept s sw mk))
       (λ mk.
       subst
-      (λ (T : Contents). Kept t L c (reply (e.volume - s.left) s.left (length s.slips)) M s.slips (record { stage = L.stage; tally = M.tally; table = T }))
+      (λ (T : Contents). Kept t L c (with_count (reply (e.volume - s.left) s.left) s.slips) M s.slips (record { stage = L.stage; tally = M.tally; table = T }))
       (sym (placed_is s sw)) (limit_kept s sw mk)))
 
 -- An order that enters where nothing trades -----------------------------------------------------------------------------------
@@ -440,14 +441,14 @@ pub queue_kept :
 queue_kept t L c M tab e own opp same no-fixing opened ac lo la gap f g taken room opp-fits reply owed =
     let d : Direction = e.direction in
     subst
-    (λ (T : Contents). Kept t L c (reply 0 e.volume 0) M [] (record { stage = L.stage; tally = M.tally; table = T }))
+    (λ (T : Contents). Kept t L c (with_count (reply 0 e.volume) []) M [] (record { stage = L.stage; tally = M.tally; table = T }))
     (sym (added_sided tab e own opp taken))
     (record {
       upheld =
           record {
             each = tt;
-            fixing = no-fixing (reply 0 e.volume 0);
-            answer = owed (mode L.stage c (price_of (reply 0 e.volume 0))) [] 0 e.volume refl (sym (ap balance ac));
+            fixing = no-fixing (with_count (reply 0 e.volume) []);
+            answer = owed (mode L.stage c (price_of (with_count (reply 0 e.volume) []))) [] 0 e.volume refl (sym (ap balance ac));
             shown = shown_of M d (insert (before d) e own) opp lo la gap f g;
           };
       opened = opened;
@@ -573,7 +574,7 @@ module _ (t : Terms) (L : Ledger) (tab : Contents) (inv : Inv t L tab) where
       subst (Opened t n n) r (record { number = refl; above = omega arith; below = omega arith; low = bp.0; high = bp.1 }))
       in
       let ac : M.accounts n ≡ Some e = put_same n (Some e) L.accounts in
-      let owed : Due L c M n (Entered n) = λ m slips sum kept p q i. Entered n (p i) (q i) (length slips) in
+      let owed : Due L c M n (Entered n) = λ m slips sum kept p q i. with_count (Entered n (p i) (q i)) slips in
       good_from t L c M
       (λ a i. record { stage = L.stage; tally = n; accounts = put n (Some (opening_is t n member d limit volume i)) L.accounts })
       (done_by (enter (day_at L tab) e))
@@ -643,7 +644,7 @@ module _ (t : Terms) (L : Ledger) (tab : Contents) (inv : Inv t L tab) where
       λ k x m. limit_of L tab.book inv.shown k d x (without_in n old x m).0
       in
       let ac : M.accounts n ≡ Some e = put_same n (Some e) L.accounts in
-      let owed : Due L c M n Altered = λ m slips sum kept p q i. Altered (p i) (q i) (length slips) in
+      let owed : Due L c M n Altered = λ m slips sum kept p q i. with_count (Altered (p i) (q i)) slips in
       good_from t L c M (λ a. alter_is n price volume o L ∙ sym (ap (λ x. alter_account n price volume x L) l.account))
       (done_by (alter (day_at L tab) price volume o))
       (subst

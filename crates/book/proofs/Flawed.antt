@@ -8,14 +8,15 @@ use Rattle.rules.specs.declared.terms.Terms.{Terms}
 use Rattle.book.specs.declared.call.Call.{Call}
 use Rattle.book.specs.declared.call.Call.TheVariants.{Enter, Alter, Withdraw, Advance}
 use Rattle.book.specs.declared.answer.Answer.{Answer}
-use Rattle.book.specs.declared.answer.Answer.TheVariants.{Entered, Altered, Withdrawn, Advanced}
+use Rattle.book.specs.declared.answer.Told.{Told}
+use Rattle.book.specs.declared.answer.Told.TheVariants.{Entered, Altered, Withdrawn, Advanced}
 use Rattle.tables.specs.Meaning.{Capacity}
 use Rattle.rules.specs.Book.{Book}
 use Rattle.rules.proofs.Allots.{allotment_most}
 use Rattle.book.specs.Ledger.{live_book, Ledger, entry, progress, feed}
 use Rattle.book.specs.Exactly.{Before}
 use Rattle.book.specs.Day.{entering}
-use Rattle.book.specs.Law.{Entering, Try, ledger, continuous, fixing_at, TradeRight, LapseRight}
+use Rattle.book.specs.Law.{withdrawn, Entering, Try, ledger, continuous, fixing_at, TradeRight, LapseRight}
 use Rattle.book.specs.Model.{engine}
 use Rattle.book.specs.Worked.{terms_of_the_day}
 use Rattle.book.proofs.Members.{listing}
@@ -60,29 +61,21 @@ cap = record { places = 4 }
 abbrev try : Call → Try
 try c = record { call = c; room = 9 }
 
-abbrev number_of : Answer → ℕ
-number_of (Entered n traded held slips) = n
-number_of (Altered traded held slips) = 0
-number_of (Withdrawn v slips) = 0
-number_of (Advanced stage price traded slips) = 0
+abbrev number_of : Told → ℕ
+number_of (Entered n traded held) = n
+number_of _ = 0
 
 pub wrong_number_fails : Fails wrong_number
 wrong_number_fails law =
     let u = law t cap [] (try (Enter 1 Buy (Some 1000) 10)) in
-    let e : ◌≡◌ {A = ℕ} 2 1 = ap number_of u.answer in
+    let e : ◌≡◌ {A = ℕ} 2 1 = ap (λ (a : Answer). number_of a.told) u.answer in
     omega (arith, e)
-
-abbrev count_of : Answer → ℕ
-count_of (Entered n traded held slips) = slips
-count_of (Altered traded held slips) = slips
-count_of (Withdrawn v slips) = slips
-count_of (Advanced stage price traded slips) = slips
 
 -- a market sell that meets nobody in Open lapses, and that is one slip
 pub no_count_fails : Fails no_count
 no_count_fails law =
     let u = law t cap (try Advance ∷ []) (try (Enter 1 Sell None 10)) in
-    let e : ◌≡◌ {A = ℕ} 0 1 = ap count_of u.answer in
+    let e : ◌≡◌ {A = ℕ} 0 1 = ap (λ (a : Answer). a.slips) u.answer in
     omega (arith, e)
 
 -- a buy at 1010 and a sell at 990, with no price
@@ -207,30 +200,21 @@ passed_over_fails law =
     (λ (b : Before Sell r.sell first). omega (arith, a, no_later Sell r.sell first b (sym p)))
     (r.sell_first.first first (record { account = refl; balance = lit< tt; side = refl }))
 
-abbrev volume_of : Answer → ℕ
-volume_of (Entered n traded held slips) = 0
-volume_of (Altered traded held slips) = 0
-volume_of (Withdrawn v slips) = v
-volume_of (Advanced stage price traded slips) = 0
-
 pub part_withdrawal_fails : Fails part_withdrawal
 part_withdrawal_fails law =
     let u = law t cap (try (Enter 1 Buy (Some 1000) 10) ∷ []) (try (Withdraw 1 1)) in
-    let e : ◌≡◌ {A = ℕ} 9 10 = ap volume_of u.answer in
+    let e : ◌≡◌ {A = ℕ} 9 10 = ap (λ (a : Answer). withdrawn a.told) u.answer in
     omega (arith, e)
 
-abbrev price_or : Answer → ℕ
-price_or (Entered n traded held slips) = 0
-price_or (Altered traded held slips) = 0
-price_or (Withdrawn v slips) = 0
-price_or (Advanced stage None traded slips) = 0
-price_or (Advanced stage (Some p) traded slips) = p
+abbrev price_or : Told → ℕ
+price_or (Advanced stage (Some p) traded) = p
+price_or _ = 0
 
 -- out of Open there is no fixing
 pub always_priced_fails : Fails always_priced
 always_priced_fails law =
     let u = law t cap (try (Enter 1 Buy None 10) ∷ (try Advance ∷ [])) (try Advance) in
-    let e : ◌≡◌ {A = ℕ} 1 0 = ap price_or u.answer in
+    let e : ◌≡◌ {A = ℕ} 1 0 = ap (λ (a : Answer). price_or a.told) u.answer in
     omega (arith, e)
 
 -- an order that stood is gone after a refusal
@@ -267,16 +251,14 @@ one_sell = try Advance ∷ (try (Enter 2 Sell (Some 990) 20) ∷ [])
 abbrev buys_it : Try
 buys_it = try (Enter 1 Buy (Some 1000) 20)
 
-abbrev sum_of : Answer → ℕ
-sum_of (Entered n traded held slips) = traded
-sum_of (Altered traded held slips) = traded
-sum_of (Withdrawn v slips) = 0
-sum_of (Advanced stage price traded slips) = traded
+abbrev sum_of : Told → ℕ
+sum_of (Entered n traded held) = traded
+sum_of _ = 0
 
 pub no_volume_fails : Fails no_volume
 no_volume_fails law =
     let u = law t cap one_sell buys_it in
-    let e : ◌≡◌ {A = ℕ} 0 20 = ap sum_of u.answer in
+    let e : ◌≡◌ {A = ℕ} 0 20 = ap (λ (a : Answer). sum_of a.told) u.answer in
     omega (arith, e)
 
 -- the buy pays 1000 to the sell that stands at 990

@@ -11,7 +11,8 @@ use Rattle.book.specs.declared.slip.Slip.{Slip}
 use Rattle.book.specs.declared.call.Call.{Call}
 use Rattle.book.specs.declared.call.Call.TheVariants.{Advance}
 use Rattle.book.specs.declared.answer.Answer.{Answer}
-use Rattle.book.specs.declared.answer.Answer.TheVariants.{Advanced}
+use Rattle.book.specs.Counts.{with_count}
+use Rattle.book.specs.declared.answer.Told.TheVariants.{Advanced}
 use Rattle.book.specs.Rules.{next}
 use Rattle.rules.specs.Book.{side}
 use Rattle.tables.specs.Meaning.{Capacity, Contents, Fits, book_of, empty}
@@ -138,7 +139,7 @@ module _ (t : Terms) (L : Ledger) (tab : Contents) (inv : Inv t L tab) where
       let price : Option ℕ = fixing_price t tab.book in
       let p : Paired = match_at price buys sells in
       let c : Call = Advance in
-      let a : Answer = Advanced (next L.stage) price (turnover slips) (length slips) in
+      let a : Answer = with_count (Advanced (next L.stage) price (turnover slips)) slips in
       let M : Ledger = at_stage (following L.stage) L in
       let pr : PairedRight price M p =
       match_right price price refl buys sells M (listed_as Buy L M refl buys (listing (inv.shown.sides Buy)))
@@ -170,7 +171,7 @@ module _ (t : Terms) (L : Ledger) (tab : Contents) (inv : Inv t L tab) where
                   along_append (SlipRight (fixing_at price)) p.slips (lapses p.buys ++ lapses p.sells) M pr.along
                   (along_append (SlipRight (fixing_at price)) (lapses p.buys) (lapses p.sells) N lb.along ls.along);
               fixing = (greatest, price_right price (fixing_right t tab.book));
-              answer = ap (λ s. Advanced s price (turnover slips) (length slips)) (next_is L.stage) ∙ ap (λ v. Advanced (following L.stage) price v (length slips)) (turnover-traded slips);
+              answer = ap (λ s. with_count (Advanced s price (turnover slips)) slips) (next_is L.stage) ∙ ap (λ v. with_count (Advanced (following L.stage) price v) slips) (turnover-traded slips);
               shown =
                   subst (λ K. Shown K (book_of (limits p.buys) (limits p.sells))) (sym end)
                   (record {
@@ -198,14 +199,14 @@ passed_on : (t : Terms) (L : Ledger) → L.stage ≡ Open → (tab : Contents) �
 passed_on t L e tab inv =
     let M : Ledger = at_stage (following L.stage) L in
     let at : following L.stage ≡ PreClose = ap following e in
-    let a : Answer = Advanced (next L.stage) None 0 0 in
+    let a : Answer = with_count (Advanced (next L.stage) None 0) [] in
     record {
       upheld =
           subst (λ m. Upheld t L Advance a m M [] tab.book) (sym (ap (λ s. advancing s None) e))
           (record {
             each = tt;
             fixing = tt;
-            answer = ap (λ s. Advanced s None 0 0) (next_is L.stage);
+            answer = ap (λ s. with_count (Advanced s None 0) []) (next_is L.stage);
             shown =
                 record {
                   sides = λ d. listed (listed_as d L M refl (side d tab.book) (listing (inv.shown.sides d)));

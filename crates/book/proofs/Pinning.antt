@@ -185,7 +185,8 @@ fed_one :
     fed c a ≡ fed c a'
 fed_one (Enter member d limit volume) m m' L a a' xs ys N N' e f = refl
 fed_one (Alter member n price volume) m m' L a a' xs ys N N' e f = refl
-fed_one (Withdraw member n) m m' L a a' xs ys N N' e f = ap (withdrawal n) (ap withdrawn e ∙ sym (ap withdrawn f))
+fed_one (Withdraw member n) m m' L a a' xs ys N N' e f =
+    ap (withdrawal n) (ap (λ (x : Answer). withdrawn x.told) e ∙ sym (ap (λ (x : Answer). withdrawn x.told) f))
 fed_one Advance m m' L a a' xs ys N N' e f = refl
 
 done_with : (slips : List Slip) (M : Ledger) (b : Book) → Settled M.stage → Shown (post_all slips M) b → DoneWith (post_all slips M)

@@ -12,7 +12,7 @@ use Rattle.tables.specs.Listing.{with_volume, without}
 use Rattle.rules.specs.Book.{Book, side}
 use Rattle.tables.specs.Meaning.{Contents, held, holding, each_side, listed, removed}
 use Rattle.book.proofs.Sided.{length-without}
-use Rattle.book.specs.Counts.{slip_count}
+use Rattle.book.specs.Counts.{with_count}
 use Rattle.book.specs.Rows.{is_open, strikes, orders_of}
 use Rattle.book.specs.Day.{Day, Made, entering, altered, strike, fixing_price, match_at, Paired, paired, pair, less, lapses, Swept, swept, sweep, sweep_of, trade, lapse_left, arrived, entered, trades_again}
 use Rattle.book.proofs.Gate.{of_step}
@@ -132,7 +132,7 @@ room_stands t day c room =
       withdrawn = λ member n o _. (refl, omega arith);
       advanced =
           λ k.
-          cond_both (strikes day.stage) _ _ (λ (m : Made). (slip_count m.answer ≡ length m.slips) × (length m.slips ≤ room))
+          cond_both (strikes day.stage) _ _ (λ (m : Made). ((with_count m.told m.slips).slips ≡ length m.slips) × (length m.slips ≤ room))
           (λ h. let l = k.long h in (refl, omega (arith, strike_fits t day, l)))
           (λ _. (refl, omega arith));
     }) c

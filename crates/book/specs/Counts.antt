@@ -1,10 +1,8 @@
--- How many slips an answer counts.
-use Rattle.std.specs.Prelude.{ℕ}
+-- An answer counts the slips of its call.
+use Rattle.std.specs.Prelude.{List, length}
 use Rattle.book.specs.declared.answer.Answer.{Answer}
-use Rattle.book.specs.declared.answer.Answer.TheVariants.{Entered, Altered, Withdrawn, Advanced}
+use Rattle.book.specs.declared.answer.Told.{Told}
+use Rattle.book.specs.declared.slip.Slip.{Slip}
 
-abbrev pub slip_count : Answer → ℕ
-slip_count (Entered n traded held slips) = slips
-slip_count (Altered traded held slips) = slips
-slip_count (Withdrawn volume slips) = slips
-slip_count (Advanced stage price traded slips) = slips
+abbrev pub with_count : Told → List Slip → Answer
+with_count told slips = record { told = told; slips = length slips }

@@ -15,7 +15,9 @@ use Rattle.book.specs.declared.slip.Slip.TheVariants.{Trade, Lapse}
 use Rattle.book.specs.declared.call.Call.{Call}
 use Rattle.book.specs.declared.call.Call.TheVariants.{Enter, Alter, Withdraw, Advance}
 use Rattle.book.specs.declared.answer.Answer.{Answer}
-use Rattle.book.specs.declared.answer.Answer.TheVariants.{Entered, Altered, Withdrawn, Advanced}
+use Rattle.book.specs.declared.answer.Told.{Told}
+use Rattle.book.specs.Counts.{with_count}
+use Rattle.book.specs.declared.answer.Told.TheVariants.{Entered, Altered, Withdrawn, Advanced}
 use Rattle.rules.specs.Side.{opposite, willing}
 use Rattle.tables.specs.Listing.{with_volume}
 use Rattle.book.specs.Rows.{by_row, on_ok, is_open, strikes, enter_rows, altering, withdrawing, advance_rows}
@@ -165,22 +167,22 @@ queued e t = record { slips = []; traded = 0; held = e.volume; table = added e t
 abbrev pub entered : Bool → Order → Contents → Arrived
 entered trades e t = cond trades (arrived e t) (queued e t)
 
--- what a call makes: the day after it, its answer and its slips
+-- what a call makes: the day after it, what is answered but for the count of slips, and the slips
 pub record Made : Type 0 where
   pub day : Day
-  pub answer : Answer
+  pub told : Told
   pub slips : List Slip
 
--- the answer, from the volumes traded and held and the count of slips
+-- what is answered, from the volumes traded and held
 abbrev pub Reply : Type 0
-Reply = ℕ → ℕ → ℕ → Answer
+Reply = ℕ → ℕ → Told
 
 -- of a call by which an order entered
 abbrev pub let_in : Stage → ℕ → Reply → Arrived → Made
 let_in stage tally reply a =
     record {
       day = record { stage = stage; tally = tally; table = a.table };
-      answer = reply a.traded a.held (length a.slips);
+      told = reply a.traded a.held;
       slips = a.slips;
     }
 
@@ -247,7 +249,7 @@ abbrev pub struck : Day → Option ℕ → Paired → Made
 struck day price m =
     record {
       day = record { stage = next day.stage; tally = day.tally; table = holding day.table (struck_book m) };
-      answer = Advanced (next day.stage) price (turnover (strike_slips m)) (length (strike_slips m));
+      told = Advanced (next day.stage) price (turnover (strike_slips m));
       slips = strike_slips m;
     }
 
@@ -278,7 +280,7 @@ abbrev pub withdraw : Day → Order → Made
 withdraw day o =
     record {
       day = record { stage = day.stage; tally = day.tally; table = removed o.number day.table };
-      answer = Withdrawn o.volume 0;
+      told = Withdrawn o.volume;
       slips = [];
     }
 
@@ -287,7 +289,7 @@ abbrev pub pass_on : Day → Made
 pass_on day =
     record {
       day = record { stage = next day.stage; tally = day.tally; table = day.table };
-      answer = Advanced (next day.stage) None 0 0;
+      told = Advanced (next day.stage) None 0;
       slips = [];
     }
 
@@ -311,7 +313,7 @@ pub data Outcome : Type 0 where
   done : Day → Answer → List Slip → Outcome
 
 abbrev pub done_by : Made → Outcome
-done_by m = done m.day m.answer m.slips
+done_by m = done m.day (with_count m.told m.slips) m.slips
 
 abbrev pub came_of : Result Made ℕ → Outcome
 came_of (Err n) = refused_by n

@@ -19,11 +19,13 @@ use Rattle.book.specs.declared.slip.Slip.{Slip}
 use Rattle.book.specs.declared.slip.Slip.TheVariants.{Trade, Lapse}
 use Rattle.book.specs.declared.call.Call.TheVariants.{Enter, Alter, Advance}
 use Rattle.book.specs.declared.answer.Answer.{Answer}
-use Rattle.book.specs.declared.answer.Answer.TheVariants.{Entered, Altered, Withdrawn, Advanced}
+use Rattle.book.specs.declared.answer.Told.{Told}
+use Rattle.book.specs.declared.answer.Told.TheVariants.{Entered, Altered, Withdrawn, Advanced}
 use Rattle.rules.specs.Side.{better, opposite, willing}
 use Rattle.book.specs.Ledger.{rewritten}
 use Rattle.book.specs.Rules.{market_price, next}
 use Rattle.book.specs.Law.{Law, Engine, Came, Verdict, refused, accepted}
+use Rattle.book.specs.Counts.{with_count}
 use Rattle.book.specs.Rows.{is_open}
 use Rattle.book.specs.Day.{Day, entering, Outcome, refused_by, done, step, enter, trade, done_by, Made, let_in, settled, queued, placed, dealt, Swept, sweep, sweep_of, fixing_price, Paired, match_at, lapses, limits, struck, turnover}
 use Rattle.book.specs.Model.{Step, engine, model}
@@ -42,56 +44,50 @@ abbrev pub answering : (Answer → Answer) → Outcome → Outcome
 answering f (refused_by n) = refused_by n
 answering f (done day a slips) = done day (f a) slips
 
-abbrev one_up : Answer → Answer
-one_up (Entered n traded held slips) = Entered (suc n) traded held slips
-one_up (Altered traded held slips) = Altered traded held slips
-one_up (Withdrawn v slips) = Withdrawn v slips
-one_up (Advanced stage price traded slips) = Advanced stage price traded slips
+-- another thing told
+abbrev telling : (Told → Told) → Outcome → Outcome
+telling f out = answering (λ a. record { told = f a.told; slips = a.slips }) out
+
+abbrev one_up : Told → Told
+one_up (Entered n traded held) = Entered (suc n) traded held
+one_up told = told
 
 -- enter answers a number that is not the order's
 abbrev pub wrong_number : Step
-wrong_number t day c room = answering one_up (step t day c room)
+wrong_number t day c room = telling one_up (step t day c room)
 
 abbrev miscounted : Answer → Answer
-miscounted (Entered n traded held slips) = Entered n traded held 0
-miscounted (Altered traded held slips) = Altered traded held 0
-miscounted (Withdrawn v slips) = Withdrawn v 0
-miscounted (Advanced stage price traded slips) = Advanced stage price traded 0
+miscounted a = record { told = a.told; slips = 0 }
 
 -- every call answers that it wrote no slip
 abbrev pub no_count : Step
 no_count t day c room = answering miscounted (step t day c room)
 
-abbrev no_volume_of : Answer → Answer
-no_volume_of (Entered n traded held slips) = Entered n 0 held slips
-no_volume_of (Altered traded held slips) = Altered 0 held slips
-no_volume_of (Withdrawn v slips) = Withdrawn v slips
-no_volume_of (Advanced stage price traded slips) = Advanced stage price 0 slips
+abbrev no_volume_of : Told → Told
+no_volume_of (Entered n traded held) = Entered n 0 held
+no_volume_of (Altered traded held) = Altered 0 held
+no_volume_of (Withdrawn v) = Withdrawn v
+no_volume_of (Advanced stage price traded) = Advanced stage price 0
 
 -- every call answers that nothing was traded
 abbrev pub no_volume : Step
-no_volume t day c room = answering no_volume_of (step t day c room)
+no_volume t day c room = telling no_volume_of (step t day c room)
 
-abbrev one_less : Answer → Answer
-one_less (Entered n traded held slips) = Entered n traded held slips
-one_less (Altered traded held slips) = Altered traded held slips
-one_less (Withdrawn v slips) = Withdrawn (v - 1) slips
-one_less (Advanced stage price traded slips) = Advanced stage price traded slips
+abbrev one_less : Told → Told
+one_less (Withdrawn v) = Withdrawn (v - 1)
+one_less told = told
 
 -- withdraw answers less than it takes
 abbrev pub part_withdrawal : Step
-part_withdrawal t day c room = answering one_less (step t day c room)
+part_withdrawal t day c room = telling one_less (step t day c room)
 
-abbrev with_price : Answer → Answer
-with_price (Entered n traded held slips) = Entered n traded held slips
-with_price (Altered traded held slips) = Altered traded held slips
-with_price (Withdrawn v slips) = Withdrawn v slips
-with_price (Advanced stage None traded slips) = Advanced stage (Some 1) traded slips
-with_price (Advanced stage (Some p) traded slips) = Advanced stage (Some p) traded slips
+abbrev with_price : Told → Told
+with_price (Advanced stage None traded) = Advanced stage (Some 1) traded
+with_price told = told
 
 -- there is always a price
 abbrev pub always_priced : Step
-always_priced t day c room = answering with_price (step t day c room)
+always_priced t day c room = telling with_price (step t day c room)
 
 -- Strikes -------------------------------------------------------------------------------------------------------------
 
@@ -165,7 +161,7 @@ lapsed_first t day =
     let slips : List Slip = lapses old.buys ++ (lapses old.sells ++ m.slips) in
     record {
       day = record { stage = next day.stage; tally = day.tally; table = holding day.table (book_of m.buys m.sells) };
-      answer = Advanced (next day.stage) price (turnover slips) (length slips);
+      told = Advanced (next day.stage) price (turnover slips);
       slips = slips;
     }
 
@@ -190,7 +186,7 @@ last_lapses t day =
             tally = day.tally;
             table = holding day.table (book_of (limits m.buys) (limits m.sells));
           };
-      answer = Advanced (next day.stage) price (turnover slips) (length slips);
+      told = Advanced (next day.stage) price (turnover slips);
       slips = slips;
     }
 
@@ -341,14 +337,14 @@ last_first t day (Enter member d limit volume) room =
     cond (is_open day.stage) (step t day (Enter member d limit volume) room)
     (done
     (record { stage = day.stage; tally = e.number; table = holding day.table (with_side d (ahead d e (side d b)) b) })
-    (Entered e.number 0 volume 0) [])
+    (with_count (Entered e.number 0 volume) []) [])
 last_first t day c room = step t day c room
 
 -- an alter leaves price, place and arrival as they are, and sets the volume
 abbrev pub old_arrival : Step
 old_arrival t day (Alter member n price volume) room =
     done (record { stage = day.stage; tally = day.tally; table = volume_set n volume day.table })
-    (Altered 0 volume 0) []
+    (with_count (Altered 0 volume) []) []
 old_arrival t day c room = step t day c room
 
 -- Refusals ------------------------------------------------------------------------------------------------------------

@@ -1,5 +1,5 @@
 -- The law of the book, of any engine, in the words of the ledger alone.
-use Rattle.std.specs.Prelude.{◌≡◌, ℕ, suc, ◌≤◌, min, true, false, ◌⊎◌, List, [], ◌∷◌, length, Some, None, Option}
+use Rattle.std.specs.Prelude.{◌≡◌, ℕ, suc, ◌≤◌, min, true, false, ◌⊎◌, List, [], ◌∷◌, Some, None, Option}
 use Rattle.rules.specs.declared.order.Direction.{Direction}
 use Rattle.rules.specs.declared.order.Direction.TheVariants.{Buy, Sell}
 use Rattle.book.specs.declared.stage.Stage.{Stage}
@@ -11,7 +11,9 @@ use Rattle.book.specs.declared.slip.Slip.TheVariants.{Trade, Lapse}
 use Rattle.book.specs.declared.call.Call.{Call}
 use Rattle.book.specs.declared.call.Call.TheVariants.{Enter, Alter, Withdraw, Advance}
 use Rattle.book.specs.declared.answer.Answer.{Answer}
-use Rattle.book.specs.declared.answer.Answer.TheVariants.{Entered, Altered, Withdrawn, Advanced}
+use Rattle.book.specs.declared.answer.Told.{Told}
+use Rattle.book.specs.Counts.{with_count}
+use Rattle.book.specs.declared.answer.Told.TheVariants.{Entered, Altered, Withdrawn, Advanced}
 use Rattle.book.specs.Exactly.{Before, Lists}
 use Rattle.rules.specs.Side.{willing}
 use Rattle.rules.specs.Book.{Book, side}
@@ -62,17 +64,15 @@ Engine = Terms → Capacity → List Try → Try → Came
 -- The ledger of a history ------------------------------------------------------------------------------------------------
 
 -- of the answers, only the volume that withdraw names
-abbrev pub withdrawn : Answer → ℕ
-withdrawn (Withdrawn v slips) = v
-withdrawn (Entered n traded held slips) = 0
-withdrawn (Altered traded held slips) = 0
-withdrawn (Advanced stage price traded slips) = 0
+abbrev pub withdrawn : Told → ℕ
+withdrawn (Withdrawn v) = v
+withdrawn _ = 0
 
 -- what an accepted call feeds the ledger
 abbrev pub fed : Call → Answer → Feed
 fed (Enter member d limit volume) a = entry member d limit volume
 fed (Alter member n price volume) a = alteration n price volume
-fed (Withdraw member n) a = withdrawal n (withdrawn a)
+fed (Withdraw member n) a = withdrawal n (withdrawn a.told)
 fed Advance a = progress
 
 -- an accepted call and then its slips; a refused one is not fed
@@ -86,11 +86,12 @@ ledger e t cap (x ∷ past) = book_keeping t x.call (e t cap past x).result (led
 
 -- Mode ---------------------------------------------------------------------------------------------------------------------
 
+abbrev pub price_told : Told → Option ℕ
+price_told (Advanced stage price traded) = price
+price_told _ = None
+
 abbrev pub price_of : Answer → Option ℕ
-price_of (Advanced stage price traded slips) = price
-price_of (Entered n traded held slips) = None
-price_of (Altered traded held slips) = None
-price_of (Withdrawn v slips) = None
+price_of a = price_told a.told
 
 pub data Mode : Type 0 where
   -- a strike, with the price that it answered
@@ -207,14 +208,17 @@ fixed_at (fixing_at price) = price
 fixed_at continuous = None
 fixed_at quiet = None
 
--- the answer that is due, with L the ledger before the call and M that after its slips
+-- what is due to be told, with L the ledger before the call and M that after its slips
+abbrev pub due_told : Call → Mode → Ledger → List Slip → Ledger → Told
+due_told (Enter member d limit volume) m L slips M =
+    Entered (suc L.tally) (traded (own slips)) (balance (M.accounts (suc L.tally)))
+due_told (Alter member n price volume) m L slips M = Altered (traded (own slips)) (balance (M.accounts n))
+due_told (Withdraw member n) m L slips M = Withdrawn (balance (L.accounts n))
+due_told Advance m L slips M = Advanced (following L.stage) (fixed_at m) (traded (own slips))
+
+-- the answer that is due counts all slips
 abbrev pub due : Call → Mode → Ledger → List Slip → Ledger → Answer
-due (Enter member d limit volume) m L slips M =
-    Entered (suc L.tally) (traded (own slips)) (balance (M.accounts (suc L.tally))) (length slips)
-due (Alter member n price volume) m L slips M =
-    Altered (traded (own slips)) (balance (M.accounts n)) (length slips)
-due (Withdraw member n) m L slips M = Withdrawn (balance (L.accounts n)) (length slips)
-due Advance m L slips M = Advanced (following L.stage) (fixed_at m) (traded (own slips)) (length slips)
+due c m L slips M = with_count (due_told c m L slips M) slips
 
 -- Faithful lists and gap -------------------------------------------------------------------------------------------------------
 

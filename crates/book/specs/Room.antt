@@ -2,12 +2,11 @@
 use Rattle.std.specs.Prelude.{◌≡◌, ℕ, ◌≤◌, length}
 use Rattle.rules.specs.declared.terms.Terms.{Terms}
 use Rattle.book.specs.declared.call.Call.{Call}
-use Rattle.book.specs.Counts.{slip_count}
 use Rattle.book.specs.Day.{Day, Outcome, refused_by, done, step}
 
 abbrev pub FitsRun : ℕ → Outcome → Type 0
 FitsRun room (refused_by n) = Unit {0}
-FitsRun room (done day a slips) = (slip_count a ≡ length slips) × (length slips ≤ room)
+FitsRun room (done day a slips) = (a.slips ≡ length slips) × (length slips ≤ room)
 
 abbrev pub Room : Type 0
 Room = (t : Terms) (day : Day) (c : Call) (room : ℕ) → FitsRun room (step t day c room)

@@ -4,7 +4,9 @@ use Rattle.std.proofs.Common.{lit≤}
 use Rattle.rules.specs.declared.order.Direction.TheVariants.{Buy, Sell}
 use Rattle.rules.specs.declared.terms.Terms.{Terms}
 use Rattle.tables.specs.Meaning.{Capacity}
-use Rattle.book.specs.declared.answer.Answer.TheVariants.{Entered, Advanced}
+use Rattle.book.specs.declared.answer.Answer.{Answer}
+use Rattle.book.specs.declared.answer.Told.{Told}
+use Rattle.book.specs.declared.answer.Told.TheVariants.{Entered, Advanced}
 use Rattle.book.specs.declared.call.Call.{Call}
 use Rattle.book.specs.declared.call.Call.TheVariants.{Enter, Withdraw, Advance}
 use Rattle.book.specs.declared.slip.Slip.TheVariants.{Trade, Lapse}
@@ -60,16 +62,19 @@ abbrev pub all_worked : Terms → Session → List Call → Session
 all_worked t s [] = s
 all_worked t s (c ∷ cs) = all_worked t (worked t c s (outcome t s.day (with_run c))) cs
 
+abbrev and_slips : Told → ℕ → Answer
+and_slips told n = record { told = told; slips = n }
+
 -- what should come of the day's calls
 abbrev pub expected : List Verdict
 expected =
-    accepted (Entered 1 0 40 0) []
-    ∷ accepted (Entered 2 0 30 0) []
+    accepted (and_slips (Entered 1 0 40) 0) []
+    ∷ accepted (and_slips (Entered 2 0 30) 0) []
     ∷ refused 6
-    ∷ accepted (Advanced Open (Some 1000) 30 1) (Trade 1 2 1000 30 ∷ [])
-    ∷ accepted (Entered 3 10 0 2) (Trade 1 3 1050 10 ∷ Lapse 3 10 ∷ [])
-    ∷ accepted (Advanced PreClose None 0 0) []
-    ∷ accepted (Advanced Closed None 0 0) []
+    ∷ accepted (and_slips (Advanced Open (Some 1000) 30) 1) (Trade 1 2 1000 30 ∷ [])
+    ∷ accepted (and_slips (Entered 3 10 0) 2) (Trade 1 3 1050 10 ∷ Lapse 3 10 ∷ [])
+    ∷ accepted (and_slips (Advanced PreClose None 0) 0) []
+    ∷ accepted (and_slips (Advanced Closed None 0) 0) []
     ∷ []
 
 -- the next reference price that a day of these calls leaves

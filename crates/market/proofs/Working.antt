@@ -10,7 +10,6 @@ use Rattle.book.specs.declared.answer.Answer.{Answer}
 use Rattle.book.specs.declared.call.Call.{Call}
 use Rattle.book.specs.declared.slip.Slip.{Slip}
 use Rattle.book.specs.declared.stage.Stage.{Stage}
-use Rattle.book.specs.Counts.{slip_count}
 use Rattle.book.specs.Day.{Outcome, refused_by, done, step}
 use Rattle.book.specs.Law.{accepted}
 use Rattle.book.specs.Leads.{GoesOn, outcome}
@@ -29,7 +28,7 @@ is_ok (Ok a) = true
 is_ok (Err n) = false
 
 -- the slips that an answer counts are those that were written
-taken : (run : List Slip) (a : Answer) (slips : List Slip) → slip_count a ≡ length slips → take (slip_count a) (written_into run slips) ≡ slips
+taken : (run : List Slip) (a : Answer) (slips : List Slip) → a.slips ≡ length slips → take a.slips (written_into run slips) ≡ slips
 taken run a slips e = ap (λ n. take n (written_into run slips)) e ∙ take-append_seam slips (drop (length slips) run)
 
 room_for : (run slips : List Slip) (n : ℕ) → n ≡ length slips → length slips ≤ length run → n ≤ length (written_into run slips)
@@ -50,7 +49,7 @@ module _ (s : Seen) (call : Call) (run : List Slip) where
 
   counted_fits : (out : Outcome) → FitsRun (length run) out → counted (answered out) ≤ length (run_after run out)
   counted_fits (refused_by n) f = omega arith
-  counted_fits (done day a slips) f = room_for run slips (slip_count a) f.0 f.1
+  counted_fits (done day a slips) f = room_for run slips a.slips f.0 f.1
 
   counted_written : (out : Outcome) → FitsRun (length run) out → run_after run out ≡ written_into run (take (counted (answered out)) (run_after run out))
   counted_written (refused_by n) f = refl
@@ -106,22 +105,22 @@ module _ (t : Terms) (stage : Stage) (tally : ℕ) (m : DayRecord) (c : Contents
         go (done day b slips) ea et ec er = absurd (both_ways true (sym (ap is_ok ea)) refl)
 
     module _ (a : Answer) (ea : Ok a ≡ answered out) where
-      pub done_fits : slip_count a ≤ length run'
+      pub done_fits : a.slips ≤ length run'
       done_fits = go out ea er (room_stands t (day_at stage tally c) call (length run))
         where
-          go : (o : Outcome) → Ok a ≡ answered o → run' ≡ run_after run o → FitsRun (length run) o → slip_count a ≤ length run'
+          go : (o : Outcome) → Ok a ≡ answered o → run' ≡ run_after run o → FitsRun (length run) o → a.slips ≤ length run'
           go (refused_by k) ea er f = absurd (both_ways true (ap is_ok ea) refl)
           go (done day b slips) ea er f =
-              subst (λ z. slip_count a ≤ length z) (sym er) (room_for run slips (slip_count a) (ap counted ea ∙ f.0) f.1)
+              subst (λ z. a.slips ≤ length z) (sym er) (room_for run slips a.slips (ap counted ea ∙ f.0) f.1)
 
-      pub done_is : came_to (Ok a) (seen t (followed t c' call (take (slip_count a) run') (record { stage = stage; tally = tally'; day = m })) c') run' ≡ works before call run
+      pub done_is : came_to (Ok a) (seen t (followed t c' call (take a.slips run') (record { stage = stage; tally = tally'; day = m })) c') run' ≡ works before call run
       done_is = go out ea et ec er fine (room_stands t (day_at stage tally c) call (length run))
         where
           after : Result Answer ℕ → ℕ → Contents → List Slip → Worked
           after r n x ss = came_to r (seen t (followed t x call (take (counted r) ss) (record { stage = stage; tally = n; day = m })) x) ss
 
           go : (o : Outcome) → Ok a ≡ answered o → tally' ≡ tally_after tally o → c' ≡ table_after c o → run' ≡ run_after run o → Fine (stage_after stage call) o → FitsRun (length run) o →
-              came_to (Ok a) (seen t (followed t c' call (take (slip_count a) run') (record { stage = stage; tally = tally'; day = m })) c') run' ≡ worked_by before call run o
+              came_to (Ok a) (seen t (followed t c' call (take a.slips run') (record { stage = stage; tally = tally'; day = m })) c') run' ≡ worked_by before call run o
           go (refused_by k) ea et ec er f r = absurd (both_ways true (ap is_ok ea) refl)
           go (done day b slips) ea et ec er f r =
               (λ i. after (ea i) (et i) (ec i) (er i))

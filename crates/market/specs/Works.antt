@@ -5,7 +5,6 @@ use Rattle.tables.specs.Meaning.{Capacity, Contents}
 use Rattle.book.specs.declared.answer.Answer.{Answer}
 use Rattle.book.specs.declared.call.Call.{Call}
 use Rattle.book.specs.declared.slip.Slip.{Slip}
-use Rattle.book.specs.Counts.{slip_count}
 use Rattle.book.specs.Day.{Outcome}
 use Rattle.book.specs.Journal.{Line}
 use Rattle.book.specs.Law.{Try, Verdict, refused, accepted}
@@ -55,12 +54,12 @@ works s call run = worked_by s call run (outcome s.terms s.session.day (trial ca
 -- how many slips what a call answers counts; a refusal counts none
 abbrev pub counted : Result Answer ℕ → ℕ
 counted (Err n) = 0
-counted (Ok a) = slip_count a
+counted (Ok a) = a.slips
 
 -- an answer comes with the slips that it counts, from the run's first place on
 abbrev pub verdict : Result Answer ℕ → List Slip → Verdict
 verdict (Err n) run = refused n
-verdict (Ok a) run = accepted a (take (slip_count a) run)
+verdict (Ok a) run = accepted a (take a.slips run)
 
 -- the line of a call in a journal: over a run of so many places, what it answered, the run and the session after it
 abbrev pub line_of : Call → ℕ → Worked → Line

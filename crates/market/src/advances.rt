@@ -6,7 +6,7 @@ ghost use Rattle.market.specs.Outcome.{told, outcome_at, answered, tally_after, 
 
 use crate::rows::check_advance;
 use crate::strikes::{Struck, strike};
-use book::answer::Answer;
+use book::answer::{Answer, Told};
 use book::slip::Slip;
 use book::stage::Stage;
 use rules::refusal::Refusal;
@@ -36,10 +36,13 @@ pub fn advance<T: Table>(
             written: 0,
         }
     };
-    Ok(Answer::Advanced {
+    let told = Told::Advanced {
         stage: stage.next(),
         price: struck.price,
         traded: struck.traded,
+    };
+    Ok(Answer {
+        told,
         slips: struck.written,
     })
 }

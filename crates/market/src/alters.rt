@@ -13,7 +13,7 @@ ghost use Rattle.market.specs.Outcome.{Kept, told, outcome_at, answered, tally_a
 
 use crate::entries::{Fill, let_in};
 use crate::rows::{check_alter, check_withdraw};
-use book::answer::Answer;
+use book::answer::{Answer, Told};
 use book::slip::Slip;
 use book::stage::Stage;
 use rules::order::Order;
@@ -124,9 +124,12 @@ pub fn alter<T: Table>(
 {
     let order = check_alter(terms, stage, *tally, table, wanted, run.len())?;
     let fill = change(stage, tally, table, order, wanted, run);
-    Ok(Answer::Altered {
+    let told = Told::Altered {
         traded: fill.traded,
         held: fill.held,
+    };
+    Ok(Answer {
+        told,
         slips: fill.written,
     })
 }
@@ -146,8 +149,8 @@ pub fn withdraw<T: Table>(
     let Ok(()) = table.remove(number) else {
         unreachable!()
     };
-    Ok(Answer::Withdrawn {
+    let told = Told::Withdrawn {
         volume: order.volume,
-        slips: 0,
-    })
+    };
+    Ok(Answer { told, slips: 0 })
 }

@@ -9,7 +9,7 @@ ghost use Rattle.market.specs.Outcome.{Kept, told, outcome_at, answered, tally_a
 
 use crate::fills::sweep;
 use crate::rows::check_enter;
-use book::answer::Answer;
+use book::answer::{Answer, Told};
 use book::slip::Slip;
 use book::stage::Stage;
 use rules::order::{Direction, Order};
@@ -167,10 +167,13 @@ pub fn enter<T: Table>(
     *tally += 1;
     let order = order_of(terms, *tally, entry);
     let fill = let_in(table, order, stage.is_open(), run);
-    Ok(Answer::Entered {
+    let told = Told::Entered {
         number: order.number,
         traded: fill.traded,
         held: fill.held,
+    };
+    Ok(Answer {
+        told,
         slips: fill.written,
     })
 }

@@ -27,7 +27,7 @@ fn written(answer: &Result<Answer, Refusal>) -> usize
     ensures { result ≡ counted (told answer.now) }
 {
     match answer {
-        Ok(accepted) => accepted.slips(),
+        Ok(accepted) => accepted.slips,
         Err(_) => 0,
     }
 }

@@ -91,7 +91,7 @@ impl<T: Table> Session<T> {
             call,
             run,
         )?;
-        let slips = &run[..answer.slips()];
+        let slips = &run[..answer.slips];
         self.state.follow(&self.terms, &self.table, &call, slips);
         Ok(answer)
     }

@@ -1,5 +1,5 @@
 use crate::session::Session;
-use book::answer::Answer;
+use book::answer::{Answer, Told};
 use book::slip::Slip;
 use rules::order::{Direction, Order};
 use rules::terms::Terms;
@@ -33,11 +33,9 @@ fn work_day<T: Table>(rt: &impl Abort, session: &mut Session<T>) -> Result<(), F
         Ok(_) => return Err(Fail::new("a price outside the band")),
     }
     let Ok(
-        Answer::Advanced {
-            price,
-            traded,
+        Answer {
+            told: Told::Advanced { price, traded, .. },
             slips,
-            ..
         },
     ) = session.advance(&mut run)
     else {
@@ -58,10 +56,12 @@ fn work_day<T: Table>(rt: &impl Abort, session: &mut Session<T>) -> Result<(), F
         )
     );
     let Ok(
-        Answer::Entered {
-            number,
-            traded,
-            held,
+        Answer {
+            told: Told::Entered {
+                number,
+                traded,
+                held,
+            },
             slips,
         },
     ) = session.enter(4, Direction::Sell, None, 20, &mut run)

@@ -7,7 +7,7 @@ use crate::report::Report;
 use crate::verdict::agreement;
 use crate::worked::{NO_SLIP, no_order};
 use anyhow::Context;
-use book::answer::Answer;
+use book::answer::{Answer, Told};
 use book::slip::Slip;
 use market::session::Session;
 use rules::order::Direction;
@@ -26,7 +26,7 @@ fn put(out: &mut String, came: Result<Answer, Refusal>, run: &[Slip]) -> Result<
     ensures { OnOk result (string_bytes out.new ≡ string_bytes out.old ++ said came run.now) }
 {
     match came {
-        Ok(answer) => put_call(out, &came, &run[..run.len().min(answer.slips())]),
+        Ok(answer) => put_call(out, &came, &run[..run.len().min(answer.slips)]),
         Err(_) => put_call(out, &came, &[]),
     }
 }
@@ -52,7 +52,13 @@ fn pass_by<T: Table>(session: &mut Session<T>, times: u32) {
     let mut run = [NO_SLIP; 8];
     for _ in 0..times {
         let came = session.enter(3, Direction::Buy, Some(800), 10, &mut run);
-        if let Ok(Answer::Entered { number, .. }) = came {
+        if let Ok(
+            Answer {
+                told: Told::Entered { number, .. },
+                ..
+            },
+        ) = came
+        {
             let _ = session.withdraw(3, number, &mut run);
         }
     }

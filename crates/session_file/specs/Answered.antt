@@ -13,7 +13,7 @@ use Rattle.book.specs.Model.{result}
 use Rattle.session_file.specs.declared.fault.Fault.{Fault}
 use Rattle.session_file.specs.Lines.{Ahead, first_ahead, number_line, call_line, terms_section, ending}
 use Rattle.session_file.specs.Opening.{terms_from}
-use Rattle.session_file.specs.Output.{answer_line, slip_line, refusal_line, fault_line, reference_line}
+use Rattle.session_file.specs.Output.{told_line, slip_line, refusal_line, fault_line, reference_line}
 
 -- a line and its byte 10
 abbrev pub ended : List ℕ → List ℕ
@@ -25,7 +25,7 @@ slip_text slip = ended (slip_line slip)
 -- a line for a call, and one for each of its slips
 abbrev pub told : Verdict → List ℕ
 told (refused n) = ended (refusal_line n)
-told (accepted answer slips) = ended (answer_line answer) ++ flat_map slip_text slips
+told (accepted answer slips) = ended (told_line answer.told) ++ flat_map slip_text slips
 
 -- what follows from what was read; a broken form ends the text
 abbrev pub reading : {X : Type 0} → Result X Fault → (X → List ℕ) → List ℕ

@@ -4,8 +4,8 @@ use Rattle.std.specs.List.{join_with_byte}
 use Rattle.std.specs.Fmt.{decimal}
 use lib.Chars.{codes}
 use Rattle.rules.specs.Refusal.{number}
-use Rattle.book.specs.declared.answer.Answer.{Answer}
-use Rattle.book.specs.declared.answer.Answer.TheVariants.{Entered, Altered, Withdrawn, Advanced}
+use Rattle.book.specs.declared.answer.Told.{Told}
+use Rattle.book.specs.declared.answer.Told.TheVariants.{Entered, Altered, Withdrawn, Advanced}
 use Rattle.book.specs.declared.slip.Slip.{Slip}
 use Rattle.book.specs.declared.slip.Slip.TheVariants.{Trade, Lapse}
 use Rattle.book.specs.Rules.{stage_number}
@@ -21,11 +21,11 @@ price_or_dash (Some price) = decimal price
 price_or_dash None = codes "-"
 
 -- the counts of slips are not written
-abbrev pub answer_line : Answer → List ℕ
-answer_line (Entered number traded held slips) = spaced (codes "E" ∷ decimal number ∷ decimal traded ∷ decimal held ∷ [])
-answer_line (Altered traded held slips) = spaced (codes "A" ∷ decimal traded ∷ decimal held ∷ [])
-answer_line (Withdrawn volume slips) = spaced (codes "W" ∷ decimal volume ∷ [])
-answer_line (Advanced stage price traded slips) =
+abbrev pub told_line : Told → List ℕ
+told_line (Entered number traded held) = spaced (codes "E" ∷ decimal number ∷ decimal traded ∷ decimal held ∷ [])
+told_line (Altered traded held) = spaced (codes "A" ∷ decimal traded ∷ decimal held ∷ [])
+told_line (Withdrawn volume) = spaced (codes "W" ∷ decimal volume ∷ [])
+told_line (Advanced stage price traded) =
     spaced (codes "N" ∷ decimal (stage_number stage) ∷ price_or_dash price ∷ decimal traded ∷ [])
 
 abbrev pub slip_line : Slip → List ℕ
@@ -43,7 +43,7 @@ abbrev pub reference_line : ℕ → List ℕ
 reference_line price = spaced (codes "F" ∷ decimal price ∷ [])
 
 abbrev pub line : OutputLine → List ℕ
-line (Accepted answer) = answer_line answer
+line (Accepted answer) = told_line answer.told
 line (Slipped slip) = slip_line slip
 line (Refused refusal) = refusal_line (number refusal)
 line (Broken fault) = fault_line fault.line

@@ -1,11 +1,11 @@
 // The lines that a session file is answered with.
 ghost use Rattle.std.specs.Prelude.{◌≡◌, Some};
-ghost use Rattle.session_file.specs.Output.{answer_line, line};
+ghost use Rattle.session_file.specs.Output.{told_line, line};
 ghost use Rattle.std.specs.Fmt.{WritesOnOk};
 ghost use Rattle.session_file.specs.declared.output.OutputLine.TheVariants.{Accepted, Slipped, Refused, Broken};
 
 use crate::fault::Fault;
-use book::answer::Answer;
+use book::answer::{Answer, Told};
 use book::slip::Slip;
 use rules::refusal::Refusal;
 use std::fmt;
@@ -52,32 +52,29 @@ impl From<Fault> for OutputLine {
     }
 }
 
-fn write_answer<W: fmt::Write>(f: &mut fmt::Formatter<W>, answer: Answer) -> fmt::Result
-    ensures { WritesOnOk W.write_str_gives f.old result (answer_line answer) f.new }
+fn write_told<W: fmt::Write>(f: &mut fmt::Formatter<W>, told: Told) -> fmt::Result
+    ensures { WritesOnOk W.write_str_gives f.old result (told_line told) f.new }
 {
-    match answer {
-        Answer::Entered {
+    match told {
+        Told::Entered {
             number,
             traded,
             held,
-            ..
         } => write!(f, "E {number} {traded} {held}"),
-        Answer::Altered { traded, held, .. } => write!(f, "A {traded} {held}"),
-        Answer::Withdrawn { volume, .. } => write!(f, "W {volume}"),
-        Answer::Advanced {
+        Told::Altered { traded, held } => write!(f, "A {traded} {held}"),
+        Told::Withdrawn { volume } => write!(f, "W {volume}"),
+        Told::Advanced {
             stage,
             price: Some(price),
             traded,
-            ..
         } => {
             let stage = stage.number();
             write!(f, "N {stage} {price} {traded}")
         }
-        Answer::Advanced {
+        Told::Advanced {
             stage,
             price: None,
             traded,
-            ..
         } => {
             let stage = stage.number();
             write!(f, "N {stage} - {traded}")
@@ -90,7 +87,7 @@ impl fmt::Display for OutputLine {
 
     fn fmt<W: fmt::Write>(&self, f: &mut fmt::Formatter<W>) -> fmt::Result {
         match *self {
-            OutputLine::Accepted(answer) => write_answer(f, answer),
+            OutputLine::Accepted(answer) => write_told(f, answer.told),
             OutputLine::Slipped(
                 Slip::Trade {
                     buy,

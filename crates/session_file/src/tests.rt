@@ -4,7 +4,7 @@ use crate::lines::Lines;
 use crate::number::read_number;
 use crate::output::OutputLine;
 use crate::reader::read_call;
-use book::answer::Answer;
+use book::answer::{Answer, Told};
 use book::call::Call;
 use book::slip::Slip;
 use book::stage::Stage;
@@ -77,12 +77,12 @@ fn calls(rt: HostRuntime) {
 
 #[test]
 fn lines(rt: HostRuntime) -> Result<(), Fail> {
-    let advanced = Answer::Advanced {
+    let told = Told::Advanced {
         stage: Stage::Open,
         price: Some(1000),
         traded: 30,
-        slips: 1,
     };
+    let advanced = Answer { told, slips: 1 };
     let alloc = rt.alloc();
     assert_eq!(rt;
         OutputLine::from(advanced).to_string(alloc)?.as_str(),

@@ -1,8 +1,7 @@
-use Rattle.std.proofs.Common.{◌≡◌, Ok, Err, sym, ap, subst, ◌∙◌, arith, rules, take}
-use Rattle.std.proofs.lemmas.List.{length-take}
+use Rattle.std.proofs.Common.{◌≡◌, Ok, Err, sym, ap, subst, ◌∙◌, rules}
+use Rattle.std.proofs.lemmas.List.{length-take-le}
 use Rattle.rules.specs.Refusal.{number}
 use Rattle.market.specs.declared.state.State.{State}
-use Rattle.market.specs.Follow.{followed}
 use Rattle.market.specs.Outcome.{Kept, told}
 use Rattle.market.specs.Works.{seen, came_to, works}
 use Rattle.market.proofs.Working.{refused_is, done_is, kept_after, done_fits, lawfully}
@@ -22,14 +21,13 @@ returns-in_err-answer-clause-lawful g c =
 pub slice_bounds-slips-end : goal.slice_bounds-slips-end
 slice_bounds-slips-end g c =
     let s = c.self.inside in
-    let k = done_fits s.terms s.state.stage s.state.tally s.state.day (g.T.Table.contents s.table) c.self.invariant (g.met.T.Table.sound s.table) c.args.call c.args.run.now c.act.new.tally (g.T.Table.contents c.act.new.table) c.act.new.run c.act.ensures.tally c.act.ensures.table c.act.ensures.run c.in_ok-answer.answer c.in_ok-answer.ensures.answer in
-    omega (arith, k, c.slips.ensures)
+    done_fits s.terms s.state.stage s.state.tally s.state.day (g.T.Table.contents s.table) c.self.invariant (g.met.T.Table.sound s.table) c.args.call c.args.run.now c.act.new.tally (g.T.Table.contents c.act.new.table) c.act.new.run c.act.ensures.tally c.act.ensures.table c.act.ensures.run c.in_ok-answer.answer c.in_ok-answer.ensures.answer
 
 pub slice_bounds-slips-end-2 : goal.slice_bounds-slips-end-2
 slice_bounds-slips-end-2 g c =
     let s = c.self.inside in
     let k = done_fits s.terms s.state.stage s.state.tally s.state.day (g.T.Table.contents s.table) c.self.invariant (g.met.T.Table.sound s.table) c.args.call c.args.run.now c.act.new.tally (g.T.Table.contents c.act.new.table) c.act.new.run c.act.ensures.tally c.act.ensures.table c.act.ensures.run c.in_ok-answer.answer c.in_ok-answer.ensures.answer in
-    omega (arith, k, c.slips.ensures, length-take c.slips.result c.act.new.run)
+    sym (length-take-le c.in_ok-answer.answer.slips c.act.new.run k)
 
 pub invariant_of-self-2 : goal.invariant_of-self-2
 invariant_of-self-2 g c =
@@ -44,7 +42,6 @@ returns-clause-outcome g c =
     let is = done_is s.terms s.state.stage s.state.tally s.state.day (g.T.Table.contents s.table) c.self.invariant (g.met.T.Table.sound s.table) c.args.call c.args.run.now c.act.new.tally (g.T.Table.contents c.act.new.table) c.act.new.run c.act.ensures.tally c.act.ensures.table c.act.ensures.run c.in_ok-answer.answer c.in_ok-answer.ensures.answer in
     let old : State = record { stage = s.state.stage; tally = c.act.new.tally; day = s.state.day } in
     ap (λ (z : State). came_to (Ok c.in_ok-answer.answer) (seen s.terms z after) c.act.new.run) c.follow.ensures
-    ∙ ap (λ n. came_to (Ok c.in_ok-answer.answer) (seen s.terms (followed s.terms after c.args.call (take n c.act.new.run) old) after) c.act.new.run) c.slips.ensures
     ∙ is
     ∙ ap (λ z. works z c.args.call c.args.run.now) c.self.view_is
 
