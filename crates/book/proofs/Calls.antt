@@ -29,7 +29,7 @@ use Rattle.tables.proofs.Ranking.{length-insert}
 use Rattle.book.specs.Rows.{is_open, is_closed, limit_row}
 use Rattle.book.proofs.Gate.{Enters, Alters}
 use Rattle.book.specs.Day.{Day, limit_price, entering, moves, alter_tally, altered, Outcome, refused_by, done, done_by, withdraw, enter, alter, Reply, Arrived, let_in, settled, queued, entered, trades_again, placed, dealt, Swept, sweep}
-use Rattle.book.specs.Law.{Mode, continuous, mode, dealing, price_of, fed, due, SlipRight, InTurn, FixingRight, Entering, Settled, Shown, Upheld}
+use Rattle.book.specs.Law.{Mode, continuous, mode, dealing, price_of, fed, due, SlipRight, InTurn, IsMarket, FixingRight, Entering, Settled, Shown, Upheld}
 use Rattle.book.proofs.Ranks.{InRank, without_in, insert_in, in_insert, none_numbered}
 use Rattle.book.proofs.Accounts.{put_same, put_other, live_same, Off, Dead, Besides, besides_without, besides_none, besides_close, besides_insert, down, down_off, down_at, down_live, down_against, not_both}
 use Rattle.book.proofs.Trades.{Listed, SweptRight, sweep_right, pos, stand}
@@ -332,7 +332,7 @@ module _ (t : Terms) (L : Ledger) (c : Call) (M : Ledger) (tab : Contents) (e : 
     -- nothing but the entering order is a market order
     e_turn :
         (K : Ledger) → Listed d K (insert (before d) (with_volume s.left e) own) → Listed (opposite d) K s.rest →
-        InTurn d K (with_volume s.left e)
+        InTurn IsMarket d K (with_volume s.left e)
     e_turn K lo la =
         record {
           ranks =
@@ -340,7 +340,7 @@ module _ (t : Terms) (L : Ledger) (c : Call) (M : Ledger) (tab : Contents) (e : 
               ⊎_elim inl (λ m. absurd (both_ways x.market (own-limit x m) mk))
               (insert_in d (with_volume s.left e) own x (lo.complete x l));
           buys_first =
-              λ q x l. rest_limit x (la.complete x (subst (λ z. Live (opposite z) K x) (sym q) l));
+              λ q x l mk. absurd (both_ways x.market (rest_limit x (la.complete x (subst (λ z. Live (opposite z) K x) (sym q) l))) mk);
         }
 
     lapse_kept :
@@ -361,7 +361,7 @@ module _ (t : Terms) (L : Ledger) (c : Call) (M : Ledger) (tab : Contents) (e : 
             market = mk;
             whole = refl;
             stuck = uncrossed_of K d (insert (before d) o own) s.rest le sw.against (e_apart some);
-            turn = subst (λ z. InTurn z K o) (sym l.side) (e_turn K le sw.against);
+            turn = subst (λ z. InTurn IsMarket z K o) (sym l.side) (e_turn K le sw.against);
             may = last ∙ sym (post_tally s.slips M);
           },
           tt,

@@ -9,7 +9,7 @@ use Rattle.book.specs.declared.call.Call.{Call}
 use Rattle.book.specs.declared.call.Call.TheVariants.{Enter, Alter, Withdraw, Advance}
 use Rattle.book.specs.declared.answer.Answer.{Answer}
 use Rattle.book.specs.declared.answer.Told.{Told}
-use Rattle.book.specs.declared.answer.Told.TheVariants.{Entered, Altered, Withdrawn, Advanced}
+use Rattle.book.specs.declared.answer.Told.TheVariants.{Entered, Advanced}
 use Rattle.tables.specs.Meaning.{Capacity}
 use Rattle.rules.specs.Book.{Book}
 use Rattle.rules.proofs.Allots.{allotment_most}

@@ -1,5 +1,5 @@
 -- Two lawful engines that refuse the same tries answer the same.
-use Rattle.std.proofs.Common.{◌≡◌, ℕ, true, false, ◌⊎◌, List, [], ◌∷◌, Some, None, Option, sym, refl, ap, ◌∙◌, subst, inl, inr, ⊎_elim, arith}
+use Rattle.std.proofs.Common.{◌≡◌, ℕ, false, ◌⊎◌, List, [], ◌∷◌, Some, None, Option, sym, refl, ap, ◌∙◌, subst, inl, inr, ⊎_elim, arith}
 use Rattle.std.proofs.lemmas.Bool.{cond_both, leb-true, both_ways}
 use Rattle.rules.specs.declared.order.Direction.{Direction}
 use Rattle.rules.specs.declared.order.Direction.TheVariants.{Buy, Sell}
@@ -16,7 +16,7 @@ use Rattle.tables.specs.Meaning.{Capacity}
 use Rattle.book.specs.Ledger.{live_book, following, Ledger, Live, First, Uncrossed, withdrawal, feed, renews, renew, keep, alter_account, post, post_all, Along}
 use Rattle.rules.proofs.Steps.{one_price}
 use Rattle.rules.specs.Book.{Book}
-use Rattle.book.specs.Law.{Try, Verdict, refused, accepted, Came, Engine, Law, Lawful, Upheld, Shown, Settled, Mode, fixing_at, continuous, quiet, mode, advancing, dealing, price_of, withdrawn, fed, due, book_keeping, ledger, Priced, TradeRight, LapseRight, InTurn, SlipRight, GreatestFixing, PriceRight, FixingRight}
+use Rattle.book.specs.Law.{IsMarket, Try, Verdict, refused, accepted, Came, Engine, Law, Lawful, Upheld, Shown, Settled, Mode, fixing_at, continuous, quiet, mode, advancing, dealing, price_of, withdrawn, fed, due, book_keeping, ledger, Priced, TradeRight, LapseRight, InTurn, SlipRight, GreatestFixing, PriceRight, FixingRight}
 use Rattle.book.specs.Pinned.{refusal, SameRefusals, Pinned}
 use Rattle.book.proofs.Members.{listing}
 use Rattle.book.proofs.Ranks.{before_irrefl, before_trans}
@@ -98,22 +98,23 @@ trade_one m L a b s q v b' s' q' v' r k =
     in
     λ i. Trade (x i) (y i) (p i) (w i)
 
+-- two that are P, each in its turn, are one
 turn_one :
-    (d e : Direction) (L : Ledger) (x y : Order) → Live d L x → Live e L y → x.market ≡ true → y.market ≡ true →
-    InTurn d L x → InTurn e L y → x ≡ y
-turn_one Buy Buy L x y lx ly mx my tx ty =
+    (P : Order → Type 0) (d e : Direction) (L : Ledger) (x y : Order) → Live d L x → Live e L y → P x → P y →
+    InTurn P d L x → InTurn P e L y → x ≡ y
+turn_one P Buy Buy L x y lx ly mx my tx ty =
     ⊎_elim (λ q. sym q)
     (λ b. ⊎_elim (λ q. q) (λ c. absurd (before_irrefl Buy x (before_trans Buy x y x b c))) (ty.ranks x lx mx)) (tx.ranks y ly my)
-turn_one Buy Sell L x y lx ly mx my tx ty = absurd (both_ways x.market (ty.buys_first refl x lx) mx)
-turn_one Sell Buy L x y lx ly mx my tx ty = absurd (both_ways y.market (tx.buys_first refl y ly) my)
-turn_one Sell Sell L x y lx ly mx my tx ty =
+turn_one P Buy Sell L x y lx ly mx my tx ty = absurd (ty.buys_first refl x lx mx)
+turn_one P Sell Buy L x y lx ly mx my tx ty = absurd (tx.buys_first refl y ly my)
+turn_one P Sell Sell L x y lx ly mx my tx ty =
     ⊎_elim (λ q. sym q)
     (λ b. ⊎_elim (λ q. q) (λ c. absurd (before_irrefl Sell x (before_trans Sell x y x b c))) (ty.ranks x lx mx)) (tx.ranks y ly my)
 
 lapse_one : (m : Mode) (L : Ledger) (n v n' v' : ℕ) → LapseRight m L n v → LapseRight m L n' v' → Lapse n v ≡ Lapse n' v'
 lapse_one m L n v n' v' r k =
     let e : r.order ≡ k.order =
-    turn_one r.order.direction k.order.direction L r.order k.order r.live k.live r.market k.market r.turn k.turn
+    turn_one IsMarket r.order.direction k.order.direction L r.order k.order r.live k.live r.market k.market r.turn k.turn
     in
     let x : n ≡ n' = sym r.number ∙ (ap (λ (z : Order). z.number) e ∙ k.number) in
     let w : v ≡ v' = r.whole ∙ (ap (λ (z : Order). z.volume) e ∙ sym k.whole) in

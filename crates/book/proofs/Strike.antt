@@ -12,7 +12,7 @@ use Rattle.book.proofs.Members.{Member}
 use Rattle.rules.specs.Side.{opposite, willing}
 use Rattle.book.specs.Ledger.{Ledger, Live, Uncrossed, post, post_all, Along, traded}
 use Rattle.book.specs.Day.{turnover, less, Paired, paired, pair, match_at, lapses, limits}
-use Rattle.book.specs.Law.{fixing_at, SlipRight, InTurn}
+use Rattle.book.specs.Law.{fixing_at, SlipRight, InTurn, IsMarket}
 use Rattle.book.proofs.Ranks.{InRank, ahead_of, rest_in, in_rank_from, before_irrefl}
 use Rattle.book.proofs.Accounts.{live_same, live_off, down, down_off, down_live, down_against, uncrossed_down, SellTurn, turn_down}
 use Rattle.book.proofs.Trades.{Listed, first_of, trade_step}
@@ -105,14 +105,14 @@ module _ (price : Option ℕ) where
         (subst (Before d o) (live_same d d L x o (sp.sound x (inr m)) (sp.sound o (inl refl)) q)
         (ahead_of d o xs sp.sorted x m))
 
-    own_turn : SellTurn d L → InTurn d L o
+    own_turn : SellTurn d L → InTurn IsMarket d L o
     own_turn h =
         record {
           ranks =
               λ x l mk.
               ⊎_elim (λ m. ⊎_elim inl (λ n. inr (ahead_of d o xs sp.sorted x n)) m)
               (λ k. absurd (both_ways x.market (sp.limit x k) mk)) (sp.complete x l);
-          buys_first = h;
+          buys_first = λ q x l mk. absurd (both_ways x.market (h q x l) mk);
         }
 
     split_keep : o.market ≡ false → Split d L xs (λ x. (x ≡ o) ⊎ K x)
@@ -168,7 +168,7 @@ module _ (price : Option ℕ) where
       (d : Direction) (o : Order) (xs ys : List Order) (L : Ledger) (K : Order → Type 0) →
       Live d L o →
       Uncrossed L →
-      InTurn d L o →
+      InTurn IsMarket d L o →
       Lapsed d (down o.number o.volume L) (limits xs) ys K (lapses xs) →
       (o.market ≡ false → Lapsed d L (limits xs) ys (λ x. (x ≡ o) ⊎ K x) (lapses xs)) →
       (m : Bool) →
@@ -184,7 +184,7 @@ module _ (price : Option ℕ) where
             market = e;
             whole = refl;
             stuck = un;
-            turn = subst (λ z. InTurn z L o) (sym l.side) turn;
+            turn = subst (λ z. InTurn IsMarket z L o) (sym l.side) turn;
             may = tt;
           },
           drop.along,

@@ -1,5 +1,5 @@
 -- Rules with a flaw, most without the refusals that do not matter to it: the law must fail of each.
-use Rattle.std.specs.Prelude.{fold, ltb, ℕ, zero, suc, ◌+◌, ◌-◌, ◌/◌, Bool, cond, ◌&&◌, nat_le, List, [], ◌∷◌, ◌++◌, length, Some, None, Option}
+use Rattle.std.specs.Prelude.{fold, ltb, ℕ, zero, suc, ◌+◌, ◌-◌, ◌/◌, Bool, cond, ◌&&◌, nat_le, List, [], ◌∷◌, ◌++◌, Some, None, Option}
 use Rattle.std.specs.Option.{option_map, unwrap_or}
 use Rattle.rules.specs.Book.{Book, side}
 use Rattle.rules.specs.Curve.{candidate}

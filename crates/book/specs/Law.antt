@@ -153,10 +153,14 @@ MayLapse (fixing_at price) L o = Unit {0}
 MayLapse continuous L o = Entering L o
 MayLapse quiet L o = ⊥
 
--- of the live market orders, o of side d is the first to go: buys before sells, each side in rank order
-pub record InTurn (d : Direction) (L : Ledger) (o : Order) : Type 0 where
-  pub ranks : (x : Order) → Live d L x → x.market ≡ true → (x ≡ o) ⊎ Before d o x
-  pub buys_first : d ≡ Sell → (x : Order) → Live Buy L x → x.market ≡ false
+-- of the live orders that are P, o of side d is the first to go: buys before sells, each side in rank order
+pub record InTurn (P : Order → Type 0) (d : Direction) (L : Ledger) (o : Order) : Type 0 where
+  pub ranks : (x : Order) → Live d L x → P x → (x ≡ o) ⊎ Before d o x
+  pub buys_first : d ≡ Sell → (x : Order) → Live Buy L x → P x → ⊥
+
+-- those that lapse
+abbrev pub IsMarket : Order → Type 0
+IsMarket o = o.market ≡ true
 
 -- a lapse is of the whole balance of a live market order in its turn, where nothing live trades any more
 pub record LapseRight (m : Mode) (L : Ledger) (n v : ℕ) : Type 0 where
@@ -166,7 +170,7 @@ pub record LapseRight (m : Mode) (L : Ledger) (n v : ℕ) : Type 0 where
   pub market : order.market ≡ true
   pub whole : v ≡ order.volume
   pub stuck : Uncrossed L
-  pub turn : InTurn order.direction L order
+  pub turn : InTurn IsMarket order.direction L order
   pub may : MayLapse m L order
 
 -- what is said of a slip, where L is the ledger right before it
