@@ -222,15 +222,26 @@ abbrev pub match_at : Option ℕ → List Order → List Order → Paired
 match_at None bs ss = record { slips = []; buys = bs; sells = ss }
 match_at (Some p) bs ss = pair p (length bs + length ss) bs ss
 
--- the slips by which the market orders of a list lapse
+-- the slips by which the orders of a list that pass a test go
+abbrev pub going_slips : (Order → Bool) → (Order → Slip) → List Order → List Slip
+going_slips goes slip [] = []
+going_slips goes slip (o ∷ os) = cond (goes o) (slip o ∷ going_slips goes slip os) (going_slips goes slip os)
+
+-- those that stay
+abbrev pub staying : (Order → Bool) → List Order → List Order
+staying goes [] = []
+staying goes (o ∷ os) = cond (goes o) (staying goes os) (o ∷ staying goes os)
+
+-- the market orders of a list lapse
+abbrev pub lapse : Order → Slip
+lapse o = Lapse o.number o.volume
+
 abbrev pub lapses : List Order → List Slip
-lapses [] = []
-lapses (o ∷ os) = cond o.market (Lapse o.number o.volume ∷ lapses os) (lapses os)
+lapses os = going_slips (λ o. o.market) lapse os
 
 -- the limit orders of a list
 abbrev pub limits : List Order → List Order
-limits [] = []
-limits (o ∷ os) = cond o.market (limits os) (o ∷ limits os)
+limits os = staying (λ o. o.market) os
 
 -- both sides trade at the fixing price
 abbrev pub fixing_trades : Terms → Book → Paired

@@ -1,8 +1,10 @@
 // Striking a fixing.
-ghost use Rattle.std.specs.Prelude.{◌≡◌, ◌≤◌, ◌++◌, Some, length};
+ghost use Rattle.std.specs.Prelude.{◌≡◌, ◌≤◌, ◌++◌, Bool, Some, length};
+ghost use Rattle.rules.specs.declared.order.Order.{Order};
+ghost use Rattle.book.specs.declared.slip.Slip.{Slip};
 ghost use Rattle.tables.specs.Meaning.{listed, holding, book_of, each_side};
 ghost use Rattle.book.specs.Rows.{orders_of};
-ghost use Rattle.book.specs.Day.{fixing_price, fixing_trades, match_at, turnover, lapses, limits, strike_slips, struck_book};
+ghost use Rattle.book.specs.Day.{fixing_price, fixing_trades, match_at, turnover, going_slips, staying, lapse as lapse_of, lapses, limits, strike_slips, struck_book};
 ghost use Rattle.market.specs.Fills.{with_listed};
 ghost use Rattle.market.specs.Outcome.{written_into};
 
@@ -10,7 +12,7 @@ use crate::curve::TableCurve;
 use crate::fills::take;
 use book::slip::Slip;
 use rules::fixing::fixing_on;
-use rules::order::Direction;
+use rules::order::{Direction, Order};
 use rules::side::{Buys, Quotes, Sells};
 use rules::terms::Terms;
 use tables::table::Table;
@@ -64,6 +66,68 @@ fn pair<T: Table>(table: &mut T, price: u32, run: &mut [Slip]) -> (u128, usize)
     }
 }
 
+// What goes from a table, and the slip for each.
+trait Leaving {
+    ghost goes: { Self → Order → Bool };
+
+    ghost slip: { Self → Order → Slip };
+
+    fn is_to_go(&self, order: &Order) -> bool
+        ensures { result ≡ goes self.now order.now };
+
+    fn slip_of(&self, order: &Order) -> Slip
+        ensures { result ≡ slip self.now order.now };
+}
+
+// Market orders lapse.
+struct Lapsing {}
+
+impl Leaving for Lapsing {
+    ghost goes = { λ l o. o.market };
+
+    ghost slip = { λ l o. lapse_of o };
+
+    fn is_to_go(&self, order: &Order) -> bool {
+        order.market
+    }
+
+    fn slip_of(&self, order: &Order) -> Slip {
+        Slip::Lapse {
+            number: order.number,
+            volume: order.volume,
+        }
+    }
+}
+
+// The orders of a side that are to go leave it, in rank order. The slips written.
+fn let_go<L: Leaving, T: Table>(
+    leaving: &L,
+    table: &mut T,
+    direction: Direction,
+    run: &mut [Slip],
+) -> usize
+    requires room { length (listed direction (T.Table.contents table.old)) ≤ length run.old }
+    requires few { length (listed direction (T.Table.contents table.old)) ≤ 1000000 }
+    ensures written { result ≡ length (going_slips (L.Leaving.goes leaving.now) (L.Leaving.slip leaving.now) (listed direction (T.Table.contents table.old))) }
+    ensures table { T.Table.contents table.new ≡ with_listed direction (staying (L.Leaving.goes leaving.now) (listed direction (T.Table.contents table.old))) (T.Table.contents table.old) }
+    ensures run { run.new ≡ written_into run.old (going_slips (L.Leaving.goes leaving.now) (L.Leaving.slip leaving.now) (listed direction (T.Table.contents table.old))) }
+{
+    let mut written = 0;
+    let mut rank = 0;
+    'orders: while let Some(order) = table.at(direction, rank) {
+        if !leaving.is_to_go(&order) {
+            rank += 1;
+            continue;
+        }
+        run[written] = leaving.slip_of(&order);
+        written += 1;
+        let Ok(()) = table.remove(order.number) else {
+            unreachable!()
+        };
+    }
+    written
+}
+
 // The market orders of a side lapse, in rank order. The slips written.
 fn lapse<T: Table>(table: &mut T, direction: Direction, run: &mut [Slip]) -> usize
     requires room { length (listed direction (T.Table.contents table.old)) ≤ length run.old }
@@ -72,23 +136,7 @@ fn lapse<T: Table>(table: &mut T, direction: Direction, run: &mut [Slip]) -> usi
     ensures table { T.Table.contents table.new ≡ with_listed direction (limits (listed direction (T.Table.contents table.old))) (T.Table.contents table.old) }
     ensures run { run.new ≡ written_into run.old (lapses (listed direction (T.Table.contents table.old))) }
 {
-    let mut written = 0;
-    let mut rank = 0;
-    'orders: while let Some(order) = table.at(direction, rank) {
-        if !order.market {
-            rank += 1;
-            continue;
-        }
-        run[written] = Slip::Lapse {
-            number: order.number,
-            volume: order.volume,
-        };
-        written += 1;
-        let Ok(()) = table.remove(order.number) else {
-            unreachable!()
-        };
-    }
-    written
+    let_go(&Lapsing {}, table, direction, run)
 }
 
 // The trades of a strike: none without a price.

@@ -1,31 +1,29 @@
 use Rattle.std.proofs.Common.{◌≡◌, ◌<◌, [], ◌∷◌, ◌++◌, length, take, Some, None, sym, ap, ◌∙◌, arith, length-set, append-nil, append_assoc, add-one}
-use Rattle.std.proofs.lemmas.Bool.{not-true, not-false}
 use Rattle.std.proofs.lemmas.List.{take_more_set, length-take-le}
 use Rattle.std.specs.List.{slice_get, remove}
 use Rattle.tables.specs.Meaning.{listed, said}
-use Rattle.book.specs.declared.slip.Slip.TheVariants.{Lapse}
-use Rattle.book.specs.Day.{lapses}
+use Rattle.book.specs.Day.{going_slips}
 use Rattle.market.specs.Fills.{with_listed}
 use Rattle.market.specs.Outcome.{written_into}
 use Rattle.market.proofs.Taking.{get_below, is_held, removed_at_rank}
 use Rattle.market.proofs.Writing.{written_so_far, same_behind}
 use Rattle.market.proofs.Sweeping.{listed_on, on_twice}
 use Rattle.market.proofs.Altering.{remove_length}
-use Rattle.market.proofs.Lapsing.{lapses_from, limits_from, lapses_next, limits_next, lapses_gone, limits_gone, lapses_end, limits_end}
-use Rattle.market.proofs.strikes.lapse.Goals as goal
+use Rattle.market.proofs.Lapsing.{going_from, staying_from, going_next, staying_next, going_gone, staying_gone, going_end, staying_end}
+use Rattle.market.proofs.strikes.let_go.Goals as goal
 
-pub orders-preserved-then-not-order : goal.orders-preserved-then-not-order
-orders-preserved-then-not-order g c =
+pub orders-preserved-then-not-is_to_go : goal.orders-preserved-then-not-is_to_go
+orders-preserved-then-not-is_to_go g c =
     let d = c.args.direction in
     let t = g.T.Table.contents c.orders.table in
     let o = c.in-Some.order in
     let i = c.orders.rank in
     let h : slice_get (listed d t) i ≡ Some o = sym c.at.ensures ∙ c.in-Some.is in
-    let limit = not-true _ c.if-not-order.true in
+    let limit = sym c.is_to_go.ensures ∙ c.if-not-is_to_go.true in
     let inv = c.orders.invariant in
     record {
-      slips = inv.slips ∙ ap (λ ss. take c.orders.written c.orders.run ++ ss) (sym (lapses_next i (listed d t) o h limit)) ∙ ap (λ j. take c.orders.written c.orders.run ++ lapses_from j (listed d t)) (sym (add-one i));
-      rest = inv.rest ∙ sym (limits_next i (listed d t) o h limit) ∙ ap (λ j. limits_from j (listed d t)) (sym (add-one i));
+      slips = inv.slips ∙ ap (λ ss. take c.orders.written c.orders.run ++ ss) (sym (going_next (g.L.Leaving.goes c.args.leaving.now) (g.L.Leaving.slip c.args.leaving.now) i (listed d t) o h limit)) ∙ ap (λ j. take c.orders.written c.orders.run ++ going_from (g.L.Leaving.goes c.args.leaving.now) (g.L.Leaving.slip c.args.leaving.now) j (listed d t)) (sym (add-one i));
+      rest = inv.rest ∙ sym (staying_next (g.L.Leaving.goes c.args.leaving.now) (g.L.Leaving.slip c.args.leaving.now) i (listed d t) o h limit) ∙ ap (λ j. staying_from (g.L.Leaving.goes c.args.leaving.now) (g.L.Leaving.slip c.args.leaving.now) j (listed d t)) (sym (add-one i));
       table = inv.table;
       run = inv.run;
       fits = inv.fits;
@@ -60,9 +58,9 @@ orders-preserved g c =
     let o = c.in-Some.order in
     let i = c.orders.rank in
     let k = c.orders.written in
-    let slip = Lapse o.number o.volume in
+    let slip = c.slip_of.result in
     let h : slice_get (listed d t) i ≡ Some o = sym c.at.ensures ∙ c.in-Some.is in
-    let market = not-false _ c.if-not-order.false in
+    let market = sym c.is_to_go.ensures ∙ c.if-not-is_to_go.false in
     let table = c.remove.ensures.after ∙ removed_at_rank t (g.met.T.Table.sound c.orders.table) d i o h in
     let left : listed d (g.T.Table.contents c.remove.new.self) ≡ remove (listed d t) i = ap (listed d) table ∙ listed_on d (remove (listed d t) i) t in
     let less = remove_length i (listed d t) o h in
@@ -71,10 +69,11 @@ orders-preserved g c =
     let place : k < length c.orders.run = omega (arith, below, inv.room) in
     record {
       slips =
-          inv.slips ∙ ap (λ ss. take k c.orders.run ++ ss) (lapses_gone i (listed d t) o h market)
-          ∙ sym (append_assoc (take k c.orders.run) (slip ∷ []) (lapses_from i (remove (listed d t) i)))
-          ∙ (λ j. sym (take_more_set c.orders.run k slip place) j ++ lapses_from i (sym left j));
-      rest = inv.rest ∙ sym (limits_gone i (listed d t) o h market) ∙ ap (limits_from i) (sym left);
+          inv.slips ∙ ap (λ ss. take k c.orders.run ++ ss) (going_gone (g.L.Leaving.goes c.args.leaving.now) (g.L.Leaving.slip c.args.leaving.now) i (listed d t) o h market)
+          ∙ ap (λ z. take k c.orders.run ++ (z ∷ going_from (g.L.Leaving.goes c.args.leaving.now) (g.L.Leaving.slip c.args.leaving.now) i (remove (listed d t) i))) (sym c.slip_of.ensures)
+          ∙ sym (append_assoc (take k c.orders.run) (slip ∷ []) (going_from (g.L.Leaving.goes c.args.leaving.now) (g.L.Leaving.slip c.args.leaving.now) i (remove (listed d t) i)))
+          ∙ (λ j. sym (take_more_set c.orders.run k slip place) j ++ going_from (g.L.Leaving.goes c.args.leaving.now) (g.L.Leaving.slip c.args.leaving.now) i (sym left j));
+      rest = inv.rest ∙ sym (staying_gone (g.L.Leaving.goes c.args.leaving.now) (g.L.Leaving.slip c.args.leaving.now) i (listed d t) o h market) ∙ ap (staying_from (g.L.Leaving.goes c.args.leaving.now) (g.L.Leaving.slip c.args.leaving.now) i) (sym left);
       table =
           table ∙ ap (with_listed d (remove (listed d t) i)) inv.table ∙ on_twice d (remove (listed d t) i) (listed d t) old
           ∙ ap (λ xs. with_listed d xs old) (sym left);
@@ -102,10 +101,10 @@ returns g c =
     let k = c.orders.written in
     let inv = c.orders.invariant in
     let h : slice_get (listed d t) i ≡ None = sym c.at.ensures ∙ c.in_default.is in
-    let slips : take k c.orders.run ≡ lapses (listed d old) =
-    sym (inv.slips ∙ ap (λ ss. take k c.orders.run ++ ss) (lapses_end i (listed d t) h) ∙ append-nil (take k c.orders.run)) in
+    let slips : take k c.orders.run ≡ going_slips (g.L.Leaving.goes c.args.leaving.now) (g.L.Leaving.slip c.args.leaving.now) (listed d old) =
+    sym (inv.slips ∙ ap (λ ss. take k c.orders.run ++ ss) (going_end (g.L.Leaving.goes c.args.leaving.now) (g.L.Leaving.slip c.args.leaving.now) i (listed d t) h) ∙ append-nil (take k c.orders.run)) in
     record {
       written = sym (length-take-le k c.orders.run inv.fits) ∙ ap length slips;
-      table = inv.table ∙ ap (λ xs. with_listed d xs old) (sym (inv.rest ∙ limits_end i (listed d t) h));
+      table = inv.table ∙ ap (λ xs. with_listed d xs old) (sym (inv.rest ∙ staying_end (g.L.Leaving.goes c.args.leaving.now) (g.L.Leaving.slip c.args.leaving.now) i (listed d t) h));
       run = written_so_far k c.orders.run c.args.run.now inv.run inv.fits ∙ ap (written_into c.args.run.now) slips;
     }

@@ -1,17 +1,17 @@
 use Rattle.std.proofs.Common.{◌≡◌, ◌+◌, ◌-◌, ◌≤◌, ◌++◌, length, take, drop}
 use Rattle.tables.specs.Meaning.{listed}
-use Rattle.book.specs.Day.{lapses, limits}
+use Rattle.book.specs.Day.{going_slips, staying}
 use Rattle.market.specs.Fills.{with_listed}
-use Rattle.market.proofs.Lapsing.{lapses_from, limits_from}
-use Rattle.market.proofs.strikes.lapse.Given as goal
+use Rattle.market.proofs.Lapsing.{going_from, staying_from}
+use Rattle.market.proofs.strikes.let_go.Given as goal
 
 abbrev pub invariant-orders : goal.invariant-orders
 invariant-orders g l =
     let m = g.T.Table.contents in
     let d = l.direction in
     record {
-      slips : lapses (listed d (m l.initial.table)) ≡ take l.written l.run ++ lapses_from l.rank (listed d (m l.table));
-      rest : limits (listed d (m l.initial.table)) ≡ limits_from l.rank (listed d (m l.table));
+      slips : going_slips (g.L.Leaving.goes l.leaving) (g.L.Leaving.slip l.leaving) (listed d (m l.initial.table)) ≡ take l.written l.run ++ going_from (g.L.Leaving.goes l.leaving) (g.L.Leaving.slip l.leaving) l.rank (listed d (m l.table));
+      rest : staying (g.L.Leaving.goes l.leaving) (listed d (m l.initial.table)) ≡ staying_from (g.L.Leaving.goes l.leaving) (g.L.Leaving.slip l.leaving) l.rank (listed d (m l.table));
       table : m l.table ≡ with_listed d (listed d (m l.table)) (m l.initial.table);
       run : drop l.written l.run ≡ drop l.written l.initial.run;
       fits : l.written ≤ length l.run;
