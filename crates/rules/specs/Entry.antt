@@ -1,4 +1,4 @@
--- What an order has to meet on its own: the number of the refusal, or none where it passes.
+-- What an order has to meet on its own, and the form of a row: the number of the refusal, or none where it passes.
 use Rattle.std.specs.Prelude.{ℕ, ◌%◌, Bool, cond, ◌&&◌, Some, None, Ok, Err, Option, Result, ◌==◌}
 use Rattle.rules.specs.Band.{within}
 use Rattle.rules.specs.Refusal.{number}
@@ -8,16 +8,13 @@ abbrev pub answer : {X : Type 0} → Result X Refusal → Option ℕ
 answer (Ok x) = None
 answer (Err e) = Some (number e)
 
--- none where the test passes, else the number
-abbrev pub unless : Bool → ℕ → Option ℕ
-unless passes n = cond passes None (Some n)
+-- a row: the number where its condition holds, else none
+abbrev pub row : Bool → ℕ → Option ℕ
+row holds n = cond holds (Some n) None
 
-abbrev pub member_row : ℕ → Option ℕ
-member_row member = unless (within 1 16 member) 4
+abbrev pub is_member : ℕ → Bool
+is_member member = within 1 16 member
 
 -- whole blocks, at least one share and at most 100,000,000
-abbrev pub volume_row : ℕ → ℕ → Option ℕ
-volume_row block volume = unless (within 1 100000000 volume && volume % block == 0) 5
-
-abbrev pub price_row : ℕ → ℕ → ℕ → Option ℕ
-price_row lo hi price = unless (within lo hi price) 6
+abbrev pub is_volume : ℕ → ℕ → Bool
+is_volume block volume = within 1 100000000 volume && volume % block == 0

@@ -40,16 +40,7 @@ abbrev pub without : ℕ → List Order → List Order
 without n os = filter (λ o. not (numbered n o)) os
 
 abbrev pub with_volume : ℕ → Order → Order
-with_volume v o =
-    record {
-      number = o.number;
-      member = o.member;
-      direction = o.direction;
-      price = o.price;
-      market = o.market;
-      volume = v;
-      arrival = o.arrival;
-    }
+with_volume v o = record o { volume = v }
 
 -- the volume v, if this is the order with the number n
 abbrev pub volume_at : ℕ → ℕ → Order → Order

@@ -25,7 +25,7 @@ listed d t = side d t.book
 
 -- the contents t with another book
 abbrev pub holding : Contents → Book → Contents
-holding t b = record { capacity = t.capacity; book = b }
+holding t b = record t { book = b }
 
 -- no side holds more than its places
 abbrev pub Fits : Contents → Type 0
