@@ -5,12 +5,12 @@ use Rattle.rules.specs.declared.order.Direction.{Direction}
 use Rattle.rules.specs.declared.order.Direction.TheVariants.{Buy, Sell}
 use Rattle.rules.specs.declared.order.Order.{Order}
 use Rattle.book.specs.Exactly.{Before}
+use Rattle.book.specs.Ledger.{Accounts, Ledger, Live, Uncrossed, put, lowered, lower, posted}
+use Rattle.book.specs.Calls.{less}
 use Rattle.book.proofs.Members.{Exactly, Member}
 use Rattle.rules.specs.Rank.{before}
 use Rattle.rules.specs.Side.{opposite}
 use Rattle.tables.specs.Listing.{insert, with_volume, without}
-use Rattle.book.specs.Ledger.{Accounts, Ledger, Live, Uncrossed, put, lowered, lower, posted}
-use Rattle.book.specs.Day.{less}
 use Rattle.book.proofs.Ranks.{exactly_as, exactly_insert, exactly_without, exactly_cons, exactly_tail, ahead_of, before_irrefl}
 
 pub put_same : (n : ℕ) (a : Option Order) (f : Accounts) → put n a f n ≡ a

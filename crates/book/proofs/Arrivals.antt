@@ -34,6 +34,7 @@ use Rattle.book.specs.Ledger.{
   post,
   post_all,
 }
+use Rattle.book.specs.declared.call.Alteration.{Alteration}
 use Rattle.book.specs.declared.call.Call.{Call}
 use Rattle.book.specs.Law.{Try, Verdict, refused, accepted, Engine, fed, book_keeping, ledger}
 use Rattle.book.proofs.Accounts.{put_same, put_other, live_same}
@@ -110,32 +111,29 @@ arrivals_new L n o h a =
         let s : o ≡ x = cc in
         omega (arith, h, ap (λ (z : Order). z.arrival) s, r, a.below j y q)
 
-pub arrivals_keep : (L : Ledger) (n price volume : ℕ) (o : Order) → L.accounts n ≡ Some o → Arrivals L → Arrivals (keep n price volume o L)
-arrivals_keep L n price volume o h a =
-    arrivals_kept L (put n (Some (rewritten price volume o.arrival o)) L.accounts)
+pub arrivals_keep :
+    (L : Ledger) (w : Alteration) (o : Order) → L.accounts w.number ≡ Some o → Arrivals L → Arrivals (keep w o L)
+arrivals_keep L w o h a =
+    let new : Order = rewritten w.price w.volume o.arrival o in
+    arrivals_kept L (put w.number (Some new) L.accounts)
     (λ m x e.
     ⊎_elim
     (λ k.
-    let r : rewritten price volume o.arrival o ≡ x = cc in
+    let r : new ≡ x = cc in
     (o, ap L.accounts k.0 ∙ h, ap (λ (z : Order). z.arrival) r))
-    (λ k. (x, k.1, refl)) (put_cases n (Some (rewritten price volume o.arrival o)) L.accounts m x e))
+    (λ k. (x, k.1, refl)) (put_cases w.number (Some new) L.accounts m x e))
     a
 
-arrivals_alter : (n price volume : ℕ) (L : Ledger) (x : Option Order) → L.accounts n ≡ x → Arrivals L → Arrivals (alter_account n price volume x L)
-arrivals_alter n price volume L None e a = a
-arrivals_alter n price volume L (Some o) e a =
-    cond_both (renews price volume o) (renew n price volume o L) (keep n price volume o L) Arrivals
-    (λ _. arrivals_new L n (rewritten price volume (suc L.tally) o) refl a) (λ _. arrivals_keep L n price volume o e a)
-
-opening_arrival : (t : Terms) (n member : ℕ) (d : Direction) (limit : Option ℕ) (volume : ℕ) → (opening t n member d limit volume).arrival ≡ n
-opening_arrival t n member d None volume = refl
-opening_arrival t n member d (Some p) volume = refl
+arrivals_alter :
+    (w : Alteration) (L : Ledger) (x : Option Order) → L.accounts w.number ≡ x → Arrivals L → Arrivals (alter_account w x L)
+arrivals_alter w L None e a = a
+arrivals_alter w L (Some o) e a =
+    cond_both (renews w o) (renew w o L) (keep w o L) Arrivals
+    (λ _. arrivals_new L w.number (rewritten w.price w.volume (suc L.tally) o) refl a) (λ _. arrivals_keep L w o e a)
 
 pub arrivals_feed : (t : Terms) (f : Feed) (L : Ledger) → Arrivals L → Arrivals (feed t f L)
-arrivals_feed t (entry member d limit volume) L a =
-    arrivals_new L (suc L.tally) (opening t (suc L.tally) member d limit volume)
-    (opening_arrival t (suc L.tally) member d limit volume) a
-arrivals_feed t (alteration n price volume) L a = arrivals_alter n price volume L (L.accounts n) refl a
+arrivals_feed t (entry e) L a = arrivals_new L (suc L.tally) (opening t (suc L.tally) e) refl a
+arrivals_feed t (alteration w) L a = arrivals_alter w L (L.accounts w.number) refl a
 arrivals_feed t (withdrawal n v) L a = arrivals_fall n v L a
 arrivals_feed t progress L a = record { below = a.below; alone = a.alone }
 

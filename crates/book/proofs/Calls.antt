@@ -10,26 +10,32 @@ use Rattle.rules.specs.declared.order.Order.{Order}
 use Rattle.rules.specs.declared.terms.Terms.{Terms}
 use Rattle.book.specs.declared.slip.Slip.{Slip}
 use Rattle.book.specs.declared.slip.Slip.TheVariants.{Lapse}
+use Rattle.book.specs.declared.call.Alteration.{Alteration}
 use Rattle.book.specs.declared.call.Call.{Call}
 use Rattle.book.specs.declared.call.Call.TheVariants.{Enter, Alter, Withdraw}
+use Rattle.book.specs.declared.call.NewOrder.{NewOrder}
+use Rattle.book.specs.declared.call.Withdrawal.{Withdrawal}
 use Rattle.book.specs.declared.answer.Answer.{Answer}
+use Rattle.book.specs.declared.answer.Told.{Told}
 use Rattle.book.specs.Counts.{with_count}
-use Rattle.book.specs.declared.answer.Told.TheVariants.{Entered, Altered, Withdrawn}
+use Rattle.book.specs.Ledger.{Ledger, Live, put, balance, opening, renews, renew, keep, rewritten, alter_account, feed, post_all, Along, traded}
+use Rattle.book.specs.Stages.{is_open}
+use Rattle.book.specs.Rows.{beyond_band, named}
+use Rattle.book.specs.Calls.{limit_price, entering, moves, alter_tally, altered, Outcome, refused_by, done, done_by, withdraw, let_enter, enter, alter, Reply, enter_reply, alter_reply, Arrived, let_in, arrived, settled, queued, entered, trades_again, placed, dealt, Swept, sweep}
+use Rattle.book.specs.Law.{Mode, continuous, mode, dealing, price_of, fed, due, SlipRight, InTurn, IsMarket, FixingRight, Entering, Settled, Shown, Upheld}
+use Rattle.book.specs.declared.answer.Told.TheVariants.{Withdrawn}
 use Rattle.book.proofs.Ranks.{InRank, without_in, insert_in, in_insert, none_numbered}
 use Rattle.book.proofs.Members.{listing, Exactly, Member}
 use Rattle.rules.specs.Rank.{before}
 use Rattle.rules.specs.Side.{opposite, willing}
 use Rattle.tables.specs.Listing.{insert, with_volume, without}
-use Rattle.book.specs.Ledger.{Ledger, Live, put, balance, opening, renews, renew, keep, rewritten, alter_account, feed, post_all, Along, traded}
-use Rattle.rules.specs.Book.{Book, side}
-use Rattle.rules.specs.Entry.{volume_row, price_row}
-use Rattle.tables.specs.Meaning.{Contents, held, lookup, takes, added, removed, holding}
+use Rattle.rules.specs.Book.{side}
+use Rattle.rules.specs.Band.{within}
+use Rattle.rules.specs.Entry.{is_volume}
+use Rattle.tables.specs.Meaning.{Contents, Fits, held, takes, added, removed, holding}
 use Rattle.tables.proofs.Numbers.{without_none}
 use Rattle.tables.proofs.Ranking.{length-insert}
-use Rattle.book.specs.Rows.{is_open, is_closed, limit_row}
 use Rattle.book.proofs.Gate.{Enters, Alters}
-use Rattle.book.specs.Day.{Day, limit_price, entering, moves, alter_tally, altered, Outcome, refused_by, done, done_by, withdraw, enter, alter, Reply, Arrived, let_in, settled, queued, entered, trades_again, placed, dealt, Swept, sweep}
-use Rattle.book.specs.Law.{Mode, continuous, mode, dealing, price_of, fed, due, SlipRight, InTurn, IsMarket, FixingRight, Entering, Settled, Shown, Upheld}
 use Rattle.book.proofs.Ranks.{InRank, without_in, insert_in, in_insert, none_numbered}
 use Rattle.book.proofs.Accounts.{put_same, put_other, live_same, Off, Dead, Besides, besides_without, besides_none, besides_close, besides_insert, down, down_off, down_at, down_live, down_against, not_both}
 use Rattle.book.proofs.Trades.{Listed, SweptRight, sweep_right, pos, stand}
@@ -71,25 +77,29 @@ module _ (t : Terms) (L : Ledger) (tab : Contents) (inv : Inv t L tab) where
       (none_numbered o.number (side (opposite o.direction) tab.book) (not_against o.direction o l)))
 
   withdraw_kept :
-      (member : ℕ) (o : Order) →
+      (w : Withdrawal) (o : Order) → w.number ≡ o.number →
       Live o.direction L o →
       held o.number tab.book ≡ true →
-      Good t L (Withdraw member o.number) (done_by (withdraw (day_at L tab) o))
-  withdraw_kept member o l h =
+      Good t L (Withdraw w) (done_by (withdraw (day_at L tab) o))
+  withdraw_kept w o same l h =
       let d : Direction = o.direction in
       let n : ℕ = o.number in
+      let x : Withdrawal = record w { number = n } in
       let M : Ledger = down n o.volume L in
       let old : List Order = side d tab.book in
       let own : List Order = without n old in
       let against : List Order = side (opposite d) tab.book in
-      subst
-      (λ (T : Contents). Kept t L (Withdraw member n) (with_count (Withdrawn o.volume) []) M [] (record { stage = L.stage; tally = L.tally; table = T }))
+      subst (λ i. Good t L (Withdraw (record w { number = i })) (done_by (withdraw (day_at L tab) o))) (sym same)
+      (subst
+      (λ (T : Contents).
+      Kept t L (Withdraw x) (with_count (Withdrawn (record { volume = o.volume })) []) M []
+      (record { stage = L.stage; tally = L.tally; table = T }))
       (sym (removed_is o l h))
       (record {
         upheld = record {
           each = tt;
           fixing = tt;
-          answer = sym (ap (λ a. with_count (Withdrawn (balance a)) []) l.account);
+          answer = sym (ap (λ a. with_count (Withdrawn (record { volume = balance a })) []) l.account);
           shown =
               shown_of M d own against (gone d L o old l (listing (inv.shown.sides d)))
               (down_against d o.volume L o against l (listing (inv.shown.sides (opposite d))))
@@ -101,13 +111,15 @@ module _ (t : Terms) (L : Ledger) (tab : Contents) (inv : Inv t L tab) where
         stage = refl;
         tally = refl;
         fits = fits_sided tab d own against (omega (arith, length-without n old, inv.fits d)) (inv.fits (opposite d));
-      })
+      }))
 
-  pub withdraw_good : (member n : ℕ) (o : Order) → lookup n tab.book ≡ Some o → Good t L (Withdraw member n) (done_by (withdraw (day_at L tab) o))
-  withdraw_good member n o e =
-      let f = found_live L tab.book inv.shown n o e in
+  pub withdraw_good :
+      (w : Withdrawal) (o : Order) → named w.number (day_at L tab) ≡ Some o →
+      Good t L (Withdraw w) (done_by (withdraw (day_at L tab) o))
+  withdraw_good w o e =
+      let f = found_live L tab.book inv.shown w.number o e in
       let there : held o.number tab.book ≡ true = ap (λ k. held k tab.book) f.1 ∙ ap is_some e in
-      subst (λ i. Good t L (Withdraw member i) (done_by (withdraw (day_at L tab) o))) f.1 (withdraw_kept member o f.0 there)
+      withdraw_kept w o (sym f.1) f.0 there
 
 -- An order that enters in Open ---------------------------------------------------------------------------------------------
 
@@ -117,7 +129,7 @@ GoodAt t L c M (refused_by n) = Unit {0}
 GoodAt t L c M (done day a slips) = Kept t L c a M slips day
 
 pub good_from :
-    (t : Terms) (L : Ledger) (c : Call) (M : Ledger) → ((a : Answer) → M ≡ feed t (fed c a) L) →
+    (t : Terms) (L : Ledger) (c : Call) (M : Ledger) → ((a : Answer Told) → M ≡ feed t (fed c a) L) →
     (out : Outcome) → GoodAt t L c M out → Good t L c out
 good_from t L c M e (refused_by n) h = tt
 good_from t L c M e (done day a slips) h = subst (λ N. Kept t L c a N slips day) (e a) h
@@ -138,12 +150,6 @@ uninsert d L o own s h ex =
           ⊎_elim (λ e. absurd (b.1 (ap (λ (z : Order). z.number) e))) (λ m. m)
           (insert_in d o own x (ex.complete x b.0));
     }
-
--- a reply is the answer that is due
-abbrev pub Due : Ledger → Call → Ledger → ℕ → Reply → Type 0
-Due L c M n reply =
-    (m : Mode) (slips : List Slip) (sum held : ℕ) → sum ≡ traded slips → held ≡ balance ((post_all slips M).accounts n) →
-    with_count (reply sum held) slips ≡ due c m L slips (post_all slips M)
 
 -- the order after its sweep, by whether it is a market order
 settled_as :
@@ -188,25 +194,22 @@ settled_as e T s = go e.market (eqb s.left 0)
         })
         (append-nil s.slips)
 
-module _ (t : Terms) (L : Ledger) (c : Call) (M : Ledger) (tab : Contents) (e : Order) (own opp : List Order)
-    (same : M.stage ≡ L.stage) (dealing_on : (a : Answer) → mode L.stage c (price_of a) ≡ continuous)
-    (last : Entering M e) (opened : AllOpened t M.tally M.accounts)
+-- what is right of an order with the number n that entered, whatever call brought it: M is the ledger with its account and
+-- before its slips
+pub record Fair (m : Mode) (M : Ledger) (n : ℕ) (x : Arrived) : Type 0 where
+  pub each : Along (SlipRight m) M x.slips
+  pub traded : x.traded ≡ traded x.slips
+  pub held : x.held ≡ balance ((post_all x.slips M).accounts n)
+  pub shown : Shown (post_all x.slips M) x.table.book
+  pub fits : Fits x.table
+
+module _ (M : Ledger) (tab : Contents) (e : Order) (own opp : List Order) (last : Entering M e)
     (sorted : InRank e.direction own) (new : NoneHas e.number own)
     (clear : (x y : Order) → Member x own → Member y opp → Apart e.direction x y)
     (own-limit : Limit own) (opp-limit : Limit opp)
-    (room : length own < tab.capacity.places) (opp-fits : length opp ≤ tab.capacity.places)
-    (reply : Reply) (owed : Due L c M e.number reply) where
+    (room : length own < tab.capacity.places) (opp-fits : length opp ≤ tab.capacity.places) where
   abbrev d : Direction
   d = e.direction
-
-  -- the session after the call, with these two lists
-  abbrev left_with : List Order → List Order → Day
-  left_with xs ys = record { stage = L.stage; tally = M.tally; table = table_of tab e.direction xs ys }
-
-  pub upheld_as :
-      (a : Answer) (slips : List Slip) (b : Book) → Upheld t L c a continuous M slips b →
-      Upheld t L c a (mode L.stage c (price_of a)) M slips b
-  upheld_as a slips b = subst (λ m. Upheld t L c a m M slips b) (sym (dealing_on a))
 
   module _ (s : Swept) (sw : SweptRight d e own M opp e.volume s) where
     -- what is left of the other side would not trade with the own side
@@ -277,55 +280,39 @@ module _ (t : Terms) (L : Ledger) (c : Call) (M : Ledger) (tab : Contents) (e : 
         (sym (cond-false (eqb s.left 0) own (insert (before d) (with_volume s.left e) own) z))))
         (cases_Bool (eqb s.left 0))
 
-    limit_kept :
+    limit_fair :
         e.market ≡ false →
-        Kept t L c (with_count (reply (e.volume - s.left) s.left) s.slips) M s.slips (left_with (stand d e s.left own) s.rest)
-    limit_kept h =
+        Fair continuous M e.number
+        (record { slips = s.slips; traded = e.volume - s.left; held = s.left; table = table_of tab d (stand d e s.left own) s.rest })
+    limit_fair h =
         record {
-          upheld =
-              upheld_as (with_count (reply (e.volume - s.left) s.left) s.slips) s.slips _
-              (record {
-                each = sw.along;
-                fixing = tt;
-                answer =
-                    owed continuous s.slips (e.volume - s.left) s.left sum_left (sym (ap balance sw.account));
-                shown =
-                    shown_of (post_all s.slips M) d (stand d e s.left own) s.rest sw.own_side sw.against
-                    (λ _. stand_apart) (λ _. stand_limit h) (λ _. rest_limit);
-              });
-          opened = opened_post t s.slips M opened;
-          stage = sym (post_stage s.slips M ∙ same);
-          tally = sym (post_tally s.slips M);
+          each = sw.along;
+          traded = sum_left;
+          held = sym (ap balance sw.account);
+          shown =
+              shown_of (post_all s.slips M) d (stand d e s.left own) s.rest sw.own_side sw.against
+              (λ _. stand_apart) (λ _. stand_limit h) (λ _. rest_limit);
           fits = fits_sided tab d (stand d e s.left own) s.rest stand_fits rest_fits;
         }
 
-    more_kept :
+    more_fair :
         (ys : List Slip) →
         traded ys ≡ 0 →
         Along (SlipRight continuous) (post_all s.slips M) ys →
         Listed d (post_all ys (post_all s.slips M)) own →
         Listed (opposite d) (post_all ys (post_all s.slips M)) s.rest →
         balance ((post_all ys (post_all s.slips M)).accounts e.number) ≡ 0 →
-        Kept t L c (with_count (reply (e.volume - s.left) 0) (s.slips ++ ys)) M (s.slips ++ ys) (left_with own s.rest)
-    more_kept ys none al lo la spent =
+        Fair continuous M e.number
+        (record { slips = s.slips ++ ys; traded = e.volume - s.left; held = 0; table = table_of tab d own s.rest })
+    more_fair ys none al lo la spent =
         record {
-          upheld =
-              upheld_as (with_count (reply (e.volume - s.left) 0) (s.slips ++ ys)) (s.slips ++ ys) _
-              (record {
-                each = along_append (SlipRight continuous) s.slips ys M sw.along al;
-                fixing = tt;
-                answer =
-                    owed continuous (s.slips ++ ys) (e.volume - s.left) 0 (omega (arith, sum_left, traded_append s.slips ys, none))
-                    (sym (ap (λ (K : Ledger). balance (K.accounts e.number)) (post_append s.slips ys M) ∙ spent));
-                shown =
-                    subst (λ K. Shown K (sided d own s.rest))
-                    (sym (post_append s.slips ys M))
-                    (shown_of (post_all ys (post_all s.slips M)) d own s.rest lo la
-                    (λ _. own_apart) (λ _. own-limit) (λ _. rest_limit));
-              });
-          opened = opened_post t (s.slips ++ ys) M opened;
-          stage = sym (post_stage (s.slips ++ ys) M ∙ same);
-          tally = sym (post_tally (s.slips ++ ys) M);
+          each = along_append (SlipRight continuous) s.slips ys M sw.along al;
+          traded = omega (arith, sum_left, traded_append s.slips ys, none);
+          held = sym (ap (λ (K : Ledger). balance (K.accounts e.number)) (post_append s.slips ys M) ∙ spent);
+          shown =
+              subst (λ K. Shown K (sided d own s.rest)) (sym (post_append s.slips ys M))
+              (shown_of (post_all ys (post_all s.slips M)) d own s.rest lo la
+              (λ _. own_apart) (λ _. own-limit) (λ _. rest_limit));
           fits = fits_sided tab d own s.rest (omega (arith, room)) rest_fits;
         }
 
@@ -343,17 +330,22 @@ module _ (t : Terms) (L : Ledger) (c : Call) (M : Ledger) (tab : Contents) (e : 
               λ q x l mk. absurd (both_ways x.market (rest_limit x (la.complete x (subst (λ z. Live (opposite z) K x) (sym q) l))) mk);
         }
 
-    lapse_kept :
+    lapse_fair :
         e.market ≡ true →
         0 < s.left →
         Listed d (post_all s.slips M) (insert (before d) (with_volume s.left e) own) →
-        Kept t L c (with_count (reply (e.volume - s.left) 0) (s.slips ++ (Lapse e.number s.left ∷ []))) M
-        (s.slips ++ (Lapse e.number s.left ∷ [])) (left_with own s.rest)
-    lapse_kept mk some le =
+        Fair continuous M e.number
+        (record {
+          slips = s.slips ++ (Lapse e.number s.left ∷ []);
+          traded = e.volume - s.left;
+          held = 0;
+          table = table_of tab d own s.rest;
+        })
+    lapse_fair mk some le =
         let K : Ledger = post_all s.slips M in
         let o : Order = with_volume s.left e in
         let l : Live d K o = le.sound o (in_insert d o own o (inl refl)) in
-        more_kept (Lapse e.number s.left ∷ []) (omega arith) (
+        more_fair (Lapse e.number s.left ∷ []) (omega arith) (
           record {
             order = o;
             number = refl;
@@ -375,57 +367,61 @@ module _ (t : Terms) (L : Ledger) (c : Call) (M : Ledger) (tab : Contents) (e : 
         (down_against d s.left K o s.rest l sw.against)
         (ap balance (down_at e.number s.left K o l.account) ∙ omega arith)
 
-    market_kept :
+    market_fair :
         e.market ≡ true →
-        let last-slips : List Slip = s.slips ++ cond (eqb s.left 0) [] (Lapse e.number s.left ∷ []) in
-        Kept t L c (with_count (reply (e.volume - s.left) 0) last-slips) M last-slips
-        (left_with own s.rest)
-    market_kept mk =
+        Fair continuous M e.number
+        (record {
+          slips = s.slips ++ cond (eqb s.left 0) [] (Lapse e.number s.left ∷ []);
+          traded = e.volume - s.left;
+          held = 0;
+          table = table_of tab d own s.rest;
+        })
+    market_fair mk =
         cond_both _ _ _
-        (λ ys. Kept t L c (with_count (reply (e.volume - s.left) 0) (s.slips ++ ys)) M (s.slips ++ ys) (left_with own s.rest))
+        (λ ys.
+        Fair continuous M e.number
+        (record { slips = s.slips ++ ys; traded = e.volume - s.left; held = 0; table = table_of tab d own s.rest }))
         (λ z.
-        more_kept [] refl tt
+        more_fair [] refl tt
         (subst (Listed d (post_all s.slips M)) (cond-true (eqb s.left 0) own (insert (before d) (with_volume s.left e) own) z) sw.own_side)
         sw.against
         (ap balance sw.account ∙ eqb-true s.left 0 z))
         (λ z.
-        lapse_kept mk (pos s.left (eqb-false s.left 0 z))
+        lapse_fair mk (pos s.left (eqb-false s.left 0 z))
         (subst (Listed d (post_all s.slips M)) (cond-false (eqb s.left 0) own (insert (before d) (with_volume s.left e) own) z) sw.own_side))
 
-  pub arrive_kept :
+  -- where orders trade
+  pub arrived_fair :
       0 < e.volume →
       M.accounts e.number ≡ Some e →
       Listed e.direction M (insert (before e.direction) e own) →
       Listed (opposite e.direction) M opp →
-      GoodAt t L c M (done_by (let_in L.stage M.tally reply (settled e (table_of tab e.direction own opp) (sweep e.direction e.number e.price opp e.volume))))
-  arrive_kept some ac lo la =
+      Fair continuous M e.number (arrived e (table_of tab e.direction own opp))
+  arrived_fair some ac lo la =
       let s : Swept = sweep d e.number e.price opp e.volume in
+      let T : Contents = table_of tab d own opp in
       let start : Listed d M (stand d e e.volume own) =
       subst (Listed d M) (sym (cond-false (eqb e.volume 0) own (insert (before d) e own) (ne_eqb e.volume 0 (λ k. omega arith)))) lo
       in
       let sw : SweptRight d e own M opp e.volume s =
       sweep_right d e own opp e.volume M start la ac last clear
       in
-      subst (λ (a : Arrived). GoodAt t L c M (done_by (let_in L.stage M.tally reply a))) (sym (settled_as e (table_of tab e.direction own opp) s))
-      (cond_both _ _ _
-      (λ (a : Arrived). GoodAt t L c M (done_by (let_in L.stage M.tally reply a)))
+      subst (λ xs. Fair continuous M e.number (settled e T (sweep d e.number e.price xs e.volume))) (sym (side_against d own opp))
+      (subst (Fair continuous M e.number) (sym (settled_as e T s))
+      (cond_both _ _ _ (Fair continuous M e.number)
       (λ mk.
       let more : List Slip = s.slips ++ cond (eqb s.left 0) [] (Lapse e.number s.left ∷ []) in
       subst
-      (λ (T : Contents). Kept t L c (with_count (reply (e.volume - s.left) 0) more) M more (record { stage = L.stage; tally = M.tally; table = T }))
-      (sym (dealt_table tab e.direction own opp s.rest)) (market_kept s sw mk))
+      (λ (X : Contents). Fair continuous M e.number (record { slips = more; traded = e.volume - s.left; held = 0; table = X }))
+      (sym (dealt_table tab e.direction own opp s.rest)) (market_fair s sw mk))
       (λ mk.
       subst
-      (λ (T : Contents). Kept t L c (with_count (reply (e.volume - s.left) s.left) s.slips) M s.slips (record { stage = L.stage; tally = M.tally; table = T }))
-      (sym (placed_is s sw)) (limit_kept s sw mk)))
+      (λ (X : Contents). Fair continuous M e.number (record { slips = s.slips; traded = e.volume - s.left; held = s.left; table = X }))
+      (sym (placed_is s sw)) (limit_fair s sw mk))))
 
--- An order that enters where nothing trades -----------------------------------------------------------------------------------
-
-pub queue_kept :
-    (t : Terms) (L : Ledger) (c : Call) (M : Ledger) (tab : Contents) (e : Order) (own opp : List Order) →
-    M.stage ≡ L.stage →
-    ((a : Answer) → FixingRight t L (mode L.stage c (price_of a)) []) →
-    AllOpened t M.tally M.accounts →
+-- where nothing trades
+queued_fair :
+    (m : Mode) (M : Ledger) (tab : Contents) (e : Order) (own opp : List Order) →
     M.accounts e.number ≡ Some e →
     Listed e.direction M (insert (before e.direction) e own) →
     Listed (opposite e.direction) M opp →
@@ -435,27 +431,51 @@ pub queue_kept :
     takes (table_of tab e.direction own opp) e ≡ true →
     length own < tab.capacity.places →
     length opp ≤ tab.capacity.places →
-    (reply : Reply) →
-    Due L c M e.number reply →
-    GoodAt t L c M (done_by (let_in L.stage M.tally reply (queued e (table_of tab e.direction own opp))))
-queue_kept t L c M tab e own opp same no-fixing opened ac lo la gap f g taken room opp-fits reply owed =
+    Fair m M e.number (queued e (table_of tab e.direction own opp))
+queued_fair m M tab e own opp ac lo la gap f g taken room opp-fits =
     let d : Direction = e.direction in
-    subst
-    (λ (T : Contents). Kept t L c (with_count (reply 0 e.volume) []) M [] (record { stage = L.stage; tally = M.tally; table = T }))
+    subst (λ (X : Contents). Fair m M e.number (record { slips = []; traded = 0; held = e.volume; table = X }))
     (sym (added_sided tab e own opp taken))
     (record {
-      upheld =
-          record {
-            each = tt;
-            fixing = no-fixing (with_count (reply 0 e.volume) []);
-            answer = owed (mode L.stage c (price_of (with_count (reply 0 e.volume) []))) [] 0 e.volume refl (sym (ap balance ac));
-            shown = shown_of M d (insert (before d) e own) opp lo la gap f g;
-          };
-      opened = opened;
-      stage = sym same;
-      tally = refl;
+      each = tt;
+      traded = refl;
+      held = sym (ap balance ac);
+      shown = shown_of M d (insert (before d) e own) opp lo la gap f g;
       fits = fits_sided tab d (insert (before d) e own) opp (omega (arith, room, length-insert (before d) e own)) opp-fits;
     })
+
+-- A call by which an order enters ------------------------------------------------------------------------------------------------
+
+-- a reply is the answer that is due
+abbrev pub Due : Ledger → Call → Ledger → ℕ → Reply → Type 0
+Due L c M n reply =
+    (m : Mode) (slips : List Slip) (sum held : ℕ) → sum ≡ traded slips → held ≡ balance ((post_all slips M).accounts n) →
+    with_count (reply sum held) slips ≡ due c m L slips (post_all slips M)
+
+-- of the call c, after which M is the ledger
+module _ (t : Terms) (L : Ledger) (c : Call) (M : Ledger) (n : ℕ) (reply : Reply) (owed : Due L c M n reply)
+    (same : M.stage ≡ L.stage) (opened : AllOpened t M.tally M.accounts) where
+  entry_kept :
+      (m : Mode) (x : Arrived) → mode L.stage c (price_of (with_count (reply x.traded x.held) x.slips)) ≡ m →
+      FixingRight t L m x.slips → Fair m M n x →
+      Kept t L c (with_count (reply x.traded x.held) x.slips) M x.slips
+      (record { stage = L.stage; tally = M.tally; table = x.table })
+  entry_kept m x at no-fixing f =
+      let a : Answer Told = with_count (reply x.traded x.held) x.slips in
+      record {
+        upheld =
+            subst (λ k. Upheld t L c a k M x.slips x.table.book) (sym at)
+            (record {
+              each = f.each;
+              fixing = no-fixing;
+              answer = owed m x.slips x.traded x.held f.traded f.held;
+              shown = f.shown;
+            });
+        opened = opened_post t x.slips M opened;
+        stage = sym (post_stage x.slips M ∙ same);
+        tally = sym (post_tally x.slips M);
+        fits = f.fits;
+      }
 
 -- dealing is no fixing
 pub dealing_none : (t : Terms) (L : Ledger) (s : Stage) (slips : List Slip) → FixingRight t L (dealing s) slips
@@ -466,11 +486,16 @@ dealing_none t L Closed slips = tt
 
 -- The ledger's words and the model's -----------------------------------------------------------------------------------------------
 
-pub opening_is : (t : Terms) (n member : ℕ) (d : Direction) (limit : Option ℕ) (volume : ℕ) → entering t n member d limit volume ≡ opening t n member d limit volume
-opening_is t n member Buy None volume = refl
-opening_is t n member Sell None volume = refl
-opening_is t n member Buy (Some p) volume = refl
-opening_is t n member Sell (Some p) volume = refl
+pub opening_is : (t : Terms) (n : ℕ) (e : NewOrder) → entering t n e ≡ opening t n e
+opening_is t n e = go e.direction e.limit
+  where
+    go :
+        (d : Direction) (limit : Option ℕ) →
+        entering t n (record e { direction = d; limit = limit }) ≡ opening t n (record e { direction = d; limit = limit })
+    go Buy None = refl
+    go Sell None = refl
+    go Buy (Some p) = refl
+    go Sell (Some p) = refl
 
 eqb_swap : (a b : ℕ) → eqb a b ≡ eqb b a
 eqb_swap a b =
@@ -480,42 +505,62 @@ renews_is : (a b : Bool) → (not a || b) ≡ cond a b true
 renews_is true b = refl
 renews_is false b = refl
 
-pub moves_is : (price volume : ℕ) (o : Order) → moves price volume o ≡ renews price volume o
-moves_is price volume o =
-    ap (λ a. not a || ltb o.volume volume) (eqb_swap price o.price) ∙ renews_is (eqb o.price price) (ltb o.volume volume)
+pub moves_is : (a : Alteration) (o : Order) → moves a o ≡ renews a o
+moves_is a o =
+    ap (λ b. not b || ltb o.volume a.volume) (eqb_swap a.price o.price) ∙
+    renews_is (eqb o.price a.price) (ltb o.volume a.volume)
 
 -- what the model makes of an alter
-abbrev pub alter_ledger : ℕ → ℕ → ℕ → Order → Ledger → Ledger
-alter_ledger n price volume o L =
+abbrev pub alter_ledger : Alteration → Order → Ledger → Ledger
+alter_ledger a o L =
     record {
       stage = L.stage;
-      tally = alter_tally L.tally price volume o;
-      accounts = put n (Some (altered L.tally price volume o)) L.accounts;
+      tally = alter_tally L.tally a o;
+      accounts = put a.number (Some (altered L.tally a o)) L.accounts;
     }
 
-alter_on : (n price volume : ℕ) (o : Order) (L : Ledger) (b : Bool) → moves price volume o ≡ b → alter_ledger n price volume o L ≡ cond b (renew n price volume o L) (keep n price volume o L)
-alter_on n price volume o L true e =
-    ap (λ b. record { stage = L.stage; tally = cond b (suc L.tally) L.tally; accounts = put n (Some (rewritten price volume (cond b (suc L.tally) o.arrival) o)) L.accounts }) e
-alter_on n price volume o L false e =
-    ap (λ b. record { stage = L.stage; tally = cond b (suc L.tally) L.tally; accounts = put n (Some (rewritten price volume (cond b (suc L.tally) o.arrival) o)) L.accounts }) e
+alter_on :
+    (a : Alteration) (o : Order) (L : Ledger) (b : Bool) → moves a o ≡ b →
+    alter_ledger a o L ≡ cond b (renew a o L) (keep a o L)
+alter_on a o L b e =
+    ap
+    (λ k.
+    record {
+      stage = L.stage;
+      tally = cond k (suc L.tally) L.tally;
+      accounts = put a.number (Some (rewritten a.price a.volume (cond k (suc L.tally) o.arrival) o)) L.accounts;
+    }) e ∙
+    at b
+  where
+    at :
+        (k : Bool) →
+        ◌≡◌ {A = Ledger}
+        (record {
+          stage = L.stage;
+          tally = cond k (suc L.tally) L.tally;
+          accounts = put a.number (Some (rewritten a.price a.volume (cond k (suc L.tally) o.arrival) o)) L.accounts;
+        })
+        (cond k (renew a o L) (keep a o L))
+    at true = refl
+    at false = refl
 
-pub alter_is : (n price volume : ℕ) (o : Order) (L : Ledger) → alter_ledger n price volume o L ≡ alter_account n price volume (Some o) L
-alter_is n price volume o L = alter_on n price volume o L (renews price volume o) (moves_is price volume o)
+pub alter_is : (a : Alteration) (o : Order) (L : Ledger) → alter_ledger a o L ≡ alter_account a (Some o) L
+alter_is a o L = alter_on a o L (renews a o) (moves_is a o)
 
 -- Enter ------------------------------------------------------------------------------------------------------------------------
 
-pub in_band : (t : Terms) (p : ℕ) → price_row t.lo t.hi p ≡ None → (t.lo ≤ p) × (p ≤ t.hi)
+pub in_band : (t : Terms) (p : ℕ) → within t.lo t.hi p ≡ true → (t.lo ≤ p) × (p ≤ t.hi)
 in_band t p e = (grind (arith, nat_tests), grind (arith, nat_tests))
 
 pub band_price :
-    (t : Terms) (d : Direction) (limit : Option ℕ) → limit_row t limit ≡ None →
+    (t : Terms) (d : Direction) (limit : Option ℕ) → beyond_band t limit ≡ false →
     (t.lo ≤ limit_price t d limit) × (limit_price t d limit ≤ t.hi)
 band_price t Buy None e = (omega (arith, t.low, t.high), omega arith)
 band_price t Sell None e = (omega arith, omega (arith, t.low, t.high))
-band_price t Buy (Some p) e = in_band t p e
-band_price t Sell (Some p) e = in_band t p e
+band_price t Buy (Some p) e = in_band t p (not-false (within t.lo t.hi p) e)
+band_price t Sell (Some p) e = in_band t p (not-false (within t.lo t.hi p) e)
 
-pub some_volume : (block v : ℕ) → volume_row block v ≡ None → 0 < v
+pub some_volume : (block v : ℕ) → is_volume block v ≡ true → 0 < v
 some_volume block v e = grind (arith, nat_tests)
 
 module _ (t : Terms) (L : Ledger) (tab : Contents) (inv : Inv t L tab) where
@@ -542,19 +587,17 @@ module _ (t : Terms) (L : Ledger) (tab : Contents) (inv : Inv t L tab) where
   none_next d x l q = let b : x.number ≤ L.tally = (inv.opened x.number x l.account).below in omega arith
 
   pub enter_good :
-      (member : ℕ) (d : Direction) (limit : Option ℕ) (volume room : ℕ) → Enters t L.stage L.tally tab d limit volume room →
-      Good t L (Enter member d limit volume) (done_by (enter (day_at L tab) (entering t (suc L.tally) member d limit volume)))
-  enter_good member d limit volume room k =
-      let c : Call = Enter member d limit volume in
+      (e : NewOrder) (room : ℕ) → Enters t (day_at L tab) e room → Good t L (Enter e) (done_by (enter t (day_at L tab) e))
+  enter_good new room k =
+      let c : Call = Enter new in
       let n : ℕ = suc L.tally in
-      let e : Order = entering t n member d limit volume in
+      let e : Order = entering t n new in
+      let d : Direction = e.direction in
       let M : Ledger = record { stage = L.stage; tally = n; accounts = put n (Some e) L.accounts } in
       let own : List Order = side d tab.book in
       let opp : List Order = side (opposite d) tab.book in
       let T : Contents = table_of tab d own opp in
       let whole : T ≡ tab = ap (holding tab) (sided_same d tab.book) in
-      let not-closed : is_closed L.stage ≡ false = k.entry.closed in
-      let inside = k.entry.inside in
       let place : length own < tab.capacity.places = k.place in
       let taken : takes T e ≡ true =
       takes_sided tab e own opp place
@@ -562,7 +605,7 @@ module _ (t : Terms) (L : Ledger) (tab : Contents) (inv : Inv t L tab) where
       (λ x m. none_next (opposite d) x ((listing (inv.shown.sides (opposite d))).sound x m))
       in
       let off : Off n L M = λ m k. put_other n (Some e) L.accounts m k in
-      let some : 0 < volume = some_volume t.block volume k.entry.whole in
+      let some : 0 < e.volume = some_volume t.block new.volume k.whole in
       let l : Live d M e = record { account = put_same n (Some e) L.accounts; balance = some; side = refl } in
       let lo : Listed d M (insert (before d) e own) = put_new M d e off l (none_next (opposite d)) (none_next d) in
       let la : Listed (opposite d) M opp = put_against M d e off l (none_next (opposite d)) in
@@ -570,124 +613,127 @@ module _ (t : Terms) (L : Ledger) (tab : Contents) (inv : Inv t L tab) where
       opened_put t n L.accounts (opened_more t L.tally L.accounts inv.opened n (omega arith)) n (Some e)
       (λ o q.
       let r : e ≡ o = cc in
-      let bp = band_price t d limit inside in
+      let bp = band_price t d new.limit k.inside in
       subst (Opened t n n) r (record { number = refl; above = omega arith; below = omega arith; low = bp.0; high = bp.1 }))
       in
       let ac : M.accounts n ≡ Some e = put_same n (Some e) L.accounts in
-      let owed : Due L c M n (Entered n) = λ m slips sum kept p q i. with_count (Entered n (p i) (q i)) slips in
+      let owed : Due L c M n (enter_reply n) = λ m slips sum kept p q i. with_count (enter_reply n (p i) (q i)) slips in
+      let kept = entry_kept t L c M n (enter_reply n) owed refl op in
       good_from t L c M
-      (λ a i. record { stage = L.stage; tally = n; accounts = put n (Some (opening_is t n member d limit volume i)) L.accounts })
-      (done_by (enter (day_at L tab) e))
-      (subst (λ (X : Contents). GoodAt t L c M (done_by (enter (day_at L X) e))) whole
+      (λ a i. record { stage = L.stage; tally = n; accounts = put n (Some (opening_is t n new i)) L.accounts })
+      (done_by (enter t (day_at L tab) new))
+      (subst (λ (X : Contents). GoodAt t L c M (done_by (let_enter (day_at L X) e))) whole
       (cond_both _ _ _
-      (λ (a : Arrived). GoodAt t L c M (done_by (let_in L.stage n (Entered n) a)))
+      (λ (a : Arrived). GoodAt t L c M (done_by (let_in (day_at L T) n (enter_reply n) a)))
       (λ is-o.
       let trading : L.stage ≡ Open = is_open_true L.stage is-o in
       let calm : Settled L.stage = settled_open L.stage trading in
-      subst (λ xs. GoodAt t L c M (done_by (let_in L.stage n (Entered n) (settled e T (sweep d n e.price xs volume))))) (sym (side_against d own opp))
-      (arrive_kept t L c M tab e own opp refl (λ a. ap dealing trading) refl op (listing (inv.shown.sides d)).sorted
+      kept continuous (arrived e T) (ap dealing trading) tt
+      (arrived_fair M tab e own opp refl (listing (inv.shown.sides d)).sorted
       (λ x m. none_next d x ((listing (inv.shown.sides d)).sound x m))
       (apart_of L tab.book inv.shown calm d) (limit_of L tab.book inv.shown calm d)
-      (limit_of L tab.book inv.shown calm (opposite d)) place (inv.fits (opposite d)) (Entered n) owed some ac lo la))
+      (limit_of L tab.book inv.shown calm (opposite d)) place (inv.fits (opposite d)) some ac lo la))
       (λ not-o.
-      queue_kept t L c M tab e own opp refl (λ a. dealing_none t L L.stage []) op ac lo la
-      (λ k. absurd (unsettled L.stage not-o not-closed k)) (λ k. absurd (unsettled L.stage not-o not-closed k))
-      (λ k. absurd (unsettled L.stage not-o not-closed k)) taken place
-      (inv.fits (opposite d)) (Entered n) owed)))
+      kept (dealing L.stage) (queued e T) refl (dealing_none t L L.stage [])
+      (queued_fair (dealing L.stage) M tab e own opp ac lo la
+      (λ h. absurd (unsettled L.stage not-o k.closed h)) (λ h. absurd (unsettled L.stage not-o k.closed h))
+      (λ h. absurd (unsettled L.stage not-o k.closed h)) taken place (inv.fits (opposite d))))))
 
   -- Alter ------------------------------------------------------------------------------------------------------------------------
 
   alter_kept :
-      (member price volume : ℕ) (o : Order) →
+      (a : Alteration) (o : Order) (room : ℕ) →
+      a.number ≡ o.number →
       Live o.direction L o →
       held o.number tab.book ≡ true →
-      is_closed L.stage ≡ false →
-      0 < volume →
-      limit_row t (Some price) ≡ None →
-      o.market ≡ false →
-      Good t L (Alter member o.number price volume) (done_by (alter (day_at L tab) price volume o))
-  alter_kept member price volume o l there not-closed some inside limit =
-      let c : Call = Alter member o.number price volume in
+      Alters t (day_at L tab) a room o →
+      Good t L (Alter a) (done_by (alter (day_at L tab) a o))
+  alter_kept a o room named-so l there rows =
       let n : ℕ = o.number in
+      let x : Alteration = record a { number = n } in
+      let c : Call = Alter x in
       let d : Direction = o.direction in
-      let tally : ℕ = alter_tally L.tally price volume o in
-      let e : Order = altered L.tally price volume o in
-      let M : Ledger = alter_ledger n price volume o L in
+      let tally : ℕ = alter_tally L.tally a o in
+      let e : Order = altered L.tally a o in
+      let M : Ledger = alter_ledger x o L in
       let old : List Order = side d tab.book in
       let own : List Order = without n old in
       let opp : List Order = side (opposite d) tab.book in
       let T : Contents = table_of tab d own opp in
       let off : Off n L M = λ m k. put_other n (Some e) L.accounts m k in
+      let some : 0 < e.volume = some_volume t.block a.volume rows.whole in
       let le : Live d M e = record { account = put_same n (Some e) L.accounts; balance = some; side = refl } in
       let lo : Listed d M (insert (before d) e own) = put_own M d e off le (one_side L d o l) in
       let la : Listed (opposite d) M opp = put_against M d e off le (one_side L d o l) in
       let more : L.tally ≤ tally =
-      cond_both (moves price volume o) (suc L.tally) L.tally (λ k. L.tally ≤ k) (λ _. omega arith) (λ _. omega arith)
+      cond_both (moves a o) (suc L.tally) L.tally (λ k. L.tally ≤ k) (λ _. omega arith) (λ _. omega arith)
       in
       let op : AllOpened t tally M.accounts =
       opened_put t tally L.accounts (opened_more t L.tally L.accounts inv.opened tally more) n (Some e)
-      (λ x q.
-      let r : e ≡ x = cc in
+      (λ y q.
+      let r : e ≡ y = cc in
       let k : Opened t L.tally n o = inv.opened n o l.account in
-      let bp = band_price t d (Some price) inside in
+      let bp = band_price t d (Some a.price) rows.inside in
       subst (Opened t tally n) r (record { number = refl; above = k.above; below = omega (arith, more, k.below); low = bp.0; high = bp.1 }))
       in
       let place : length own < tab.capacity.places =
       omega (arith, length-without n old, times_some n old o ((listing (inv.shown.sides d)).complete o l) refl, inv.fits d)
       in
-      let fresh : NoneHas n own = λ x m. (without_in n old x m).1 in
+      let fresh : NoneHas n own = λ y m. (without_in n old y m).1 in
       let taken : takes T e ≡ true = takes_sided tab e own opp place fresh (not_against t L tab inv d o l) in
-      let clear : Settled L.stage → (x y : Order) → Member x own → Member y opp → Apart d x y =
-      λ k x y m i. apart_of L tab.book inv.shown k d x y (without_in n old x m).0 i
+      let clear : Settled L.stage → (y z : Order) → Member y own → Member z opp → Apart d y z =
+      λ k y z m i. apart_of L tab.book inv.shown k d y z (without_in n old y m).0 i
       in
       let limits : Settled L.stage → Limit own =
-      λ k x m. limit_of L tab.book inv.shown k d x (without_in n old x m).0
+      λ k y m. limit_of L tab.book inv.shown k d y (without_in n old y m).0
       in
       let ac : M.accounts n ≡ Some e = put_same n (Some e) L.accounts in
-      let owed : Due L c M n Altered = λ m slips sum kept p q i. with_count (Altered (p i) (q i)) slips in
-      good_from t L c M (λ a. alter_is n price volume o L ∙ sym (ap (λ x. alter_account n price volume x L) l.account))
-      (done_by (alter (day_at L tab) price volume o))
+      let owed : Due L c M n alter_reply = λ m slips sum kept p q i. with_count (alter_reply (p i) (q i)) slips in
+      let kept = entry_kept t L c M n alter_reply owed refl op in
+      subst (λ i. Good t L (Alter (record a { number = i })) (done_by (alter (day_at L tab) a o))) (sym named-so)
+      (good_from t L c M (λ _. alter_is x o L ∙ sym (ap (λ y. alter_account x y L) l.account))
+      (done_by (alter (day_at L tab) a o))
       (subst
       (λ (X : Contents).
       GoodAt t L c M
-      (done_by (let_in L.stage tally Altered (entered (trades_again L.stage price o) e X))))
+      (done_by (let_in (day_at L tab) tally alter_reply (entered (trades_again L.stage a o) e X))))
       (sym (removed_is t L tab inv o l there))
       (cond_both _ _ _
-      (λ (a : Arrived). GoodAt t L c M (done_by (let_in L.stage tally Altered a)))
+      (λ (y : Arrived). GoodAt t L c M (done_by (let_in (day_at L tab) tally alter_reply y)))
       (λ h.
-      let both = and_parts (is_open L.stage) (not (eqb price o.price)) h in
+      let both = and_parts (is_open L.stage) (not (eqb a.price o.price)) h in
       let trading : L.stage ≡ Open = is_open_true L.stage both.0 in
       let calm : Settled L.stage = settled_open L.stage trading in
-      let moved : moves price volume o ≡ true = ap (λ b. b || ltb o.volume volume) both.1 in
+      let moved : moves a o ≡ true = ap (λ b. b || ltb o.volume a.volume) both.1 in
       let last : Entering M e =
       ap (λ b. cond b (suc L.tally) o.arrival) moved ∙ sym (ap (λ b. cond b (suc L.tally) L.tally) moved)
       in
-      subst (λ xs. GoodAt t L c M (done_by (let_in L.stage tally Altered (settled e T (sweep d n price xs volume))))) (sym (side_against d own opp))
-      (arrive_kept t L c M tab e own opp refl (λ a. ap dealing trading) last op
+      kept continuous (arrived e T) (ap dealing trading) tt
+      (arrived_fair M tab e own opp last
       (besides_without n d L old (listing (inv.shown.sides d))).sorted fresh
       (clear calm) (limits calm) (limit_of L tab.book inv.shown calm (opposite d)) place (inv.fits (opposite d))
-      Altered owed some ac lo la))
+      some ac lo la))
       (λ h.
-      queue_kept t L c M tab e own opp refl (λ a. dealing_none t L L.stage []) op ac lo la
-      (λ k x y m i.
+      kept (dealing L.stage) (queued e T) refl (dealing_none t L L.stage [])
+      (queued_fair (dealing L.stage) M tab e own opp ac lo la
+      (λ k y z m i.
       ⊎_elim
       (λ q.
-      ⊎_elim (λ not-o. absurd (unsettled L.stage not-o not-closed k))
+      ⊎_elim (λ not-o. absurd (unsettled L.stage not-o rows.closed k))
       (λ same.
-      let p : price ≡ o.price = eqb-true price o.price (not-false (eqb price o.price) same) in
-      subst (λ (w : Order). Apart d w y) (sym q)
-      (subst (λ z. willing (opposite d) y.price z ≡ false) (sym p)
-      (apart_of L tab.book inv.shown k d o y ((listing (inv.shown.sides d)).complete o l) i)))
-      (and_cases (is_open L.stage) (not (eqb price o.price)) h))
-      (λ j. clear k x y j i) (insert_in d e own x m))
-      (λ k x m. ⊎_elim (λ q. ap (λ (z : Order). z.market) q ∙ limit) (λ j. limits k x j) (insert_in d e own x m))
-      (λ k. limit_of L tab.book inv.shown k (opposite d)) taken place (inv.fits (opposite d)) Altered owed)))
+      let p : a.price ≡ o.price = eqb-true a.price o.price (not-false (eqb a.price o.price) same) in
+      subst (λ (w : Order). Apart d w z) (sym q)
+      (subst (λ v. willing (opposite d) z.price v ≡ false) (sym p)
+      (apart_of L tab.book inv.shown k d o z ((listing (inv.shown.sides d)).complete o l) i)))
+      (and_cases (is_open L.stage) (not (eqb a.price o.price)) h))
+      (λ j. clear k y z j i) (insert_in d e own y m))
+      (λ k y m. ⊎_elim (λ q. ap (λ (z : Order). z.market) q ∙ rows.limit) (λ j. limits k y j) (insert_in d e own y m))
+      (λ k. limit_of L tab.book inv.shown k (opposite d)) taken place (inv.fits (opposite d)))))))
 
   pub alter_good :
-      (member n price volume room : ℕ) (o : Order) → Alters t L.stage L.tally tab n price volume room o →
-      Good t L (Alter member n price volume) (done_by (alter (day_at L tab) price volume o))
-  alter_good member n price volume room o k =
-      let f = found_live L tab.book inv.shown n o k.found in
-      let there : held o.number tab.book ≡ true = ap (λ k. held k tab.book) f.1 ∙ ap is_some k.found in
-      subst (λ i. Good t L (Alter member i price volume) (done_by (alter (day_at L tab) price volume o))) f.1
-      (alter_kept member price volume o f.0 there k.entry.closed (some_volume t.block volume k.entry.whole) k.entry.inside k.limit)
+      (a : Alteration) (o : Order) (room : ℕ) → Alters t (day_at L tab) a room o →
+      Good t L (Alter a) (done_by (alter (day_at L tab) a o))
+  alter_good a o room k =
+      let f = found_live L tab.book inv.shown a.number o k.found in
+      let there : held o.number tab.book ≡ true = ap (λ i. held i tab.book) f.1 ∙ ap is_some k.found in
+      alter_kept a o room (sym f.1) f.0 there k

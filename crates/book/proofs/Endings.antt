@@ -1,6 +1,5 @@
 -- The marks of the day say what the journal says.
 use Rattle.std.proofs.Common.{◌≡◌, ℕ, Bool, true, false, cond, ◌&&◌, List, [], ◌∷◌, Some, None, Option, sym, refl, ap, ◌∙◌, subst}
-use Rattle.std.proofs.lemmas.Bool.{cond_both}
 use Rattle.std.specs.Option.{option_or, unwrap_or}
 use Rattle.rules.specs.Reference.{next_reference_under}
 use Rattle.rules.specs.declared.order.Direction.TheVariants.{Buy, Sell}
@@ -8,23 +7,21 @@ use Rattle.rules.specs.declared.order.Order.{Order}
 use Rattle.rules.specs.declared.reference.DayRecord.{DayRecord}
 use Rattle.rules.specs.declared.terms.Terms.{Terms}
 use Rattle.tables.specs.Meaning.{Capacity}
-use Rattle.book.specs.declared.answer.Answer.{Answer}
 use Rattle.book.specs.declared.call.Call.{Call}
-use Rattle.book.specs.declared.call.Call.TheVariants.{Enter, Alter, Withdraw, Advance}
+use Rattle.book.specs.declared.call.Call.TheVariants.{Advance}
 use Rattle.book.specs.declared.slip.Slip.{Slip}
 use Rattle.book.specs.declared.slip.Slip.TheVariants.{Trade, Lapse}
 use Rattle.book.specs.declared.stage.Stage.{Stage}
 use Rattle.book.specs.declared.stage.Stage.TheVariants.{PreOpen, Open, PreClose, Closed}
-use Rattle.book.specs.Day.{Outcome, refused_by, done}
+use Rattle.book.specs.Calls.{Outcome, refused_by, done}
 use Rattle.book.specs.Journal.{Line, books}
-use Rattle.book.specs.Law.{Try}
+use Rattle.book.specs.Law.{Try, fed}
 use Rattle.book.specs.Leads.{outcome, Leads}
 use Rattle.book.specs.Marks.{Session, worked, last_price, first_at, mark_on, marked, left_by}
 use Rattle.book.specs.Model.{moved, came}
 use Rattle.book.specs.Ending.{last_in, last_traded, best_listed, is_price, looked, throughout, reference_at, EndsByJournal}
-use Rattle.book.specs.Law.{fed}
-use Rattle.book.specs.Ledger.{Ledger, following, feed, alter_account, renews, renew, keep}
-use Rattle.book.proofs.Kept.{post_stage}
+use Rattle.book.specs.Ledger.{Ledger, feed}
+use Rattle.book.proofs.Kept.{post_stage, stage_after, feed_stage}
 use Rattle.book.proofs.Leading.{leads_agrees}
 
 last_is : (p : Option ℕ) (ss : List Slip) → last_price p ss ≡ option_or (last_in ss) p
@@ -35,13 +32,6 @@ last_is p (Trade b s q v ∷ ss) = last_is (Some q) ss ∙ go (last_in ss)
     go None = refl
     go (Some x) = refl
 last_is p (Lapse n v ∷ ss) = last_is p ss
-
--- the stage after an accepted call
-abbrev stage_after : Stage → Call → Stage
-stage_after stage (Enter member d limit volume) = stage
-stage_after stage (Alter member n price volume) = stage
-stage_after stage (Withdraw member n) = stage
-stage_after stage Advance = following stage
 
 -- a mark and what the journal says of it: before Open nothing was looked at
 abbrev Marked : Stage → Bool → Bool → Type 0
@@ -58,22 +48,14 @@ swap false false = refl
 
 marks_on : (stage : Stage) (c : Call) (mark now' stood : Bool) → Marked stage mark stood
     → Marked (stage_after stage c) (mark_on stage c mark now') (cond (looked stage c) now' true && stood)
-marks_on PreOpen (Enter member d limit volume) mark now' stood h = h
-marks_on PreOpen (Alter member n price volume) mark now' stood h = h
-marks_on PreOpen (Withdraw member n) mark now' stood h = h
 marks_on PreOpen Advance mark now' stood h = sym (ap (λ x. now' && x) h ∙ swap now' true)
-marks_on Open (Enter member d limit volume) mark now' stood h = ap (λ x. x && now') h ∙ swap stood now'
-marks_on Open (Alter member n price volume) mark now' stood h = ap (λ x. x && now') h ∙ swap stood now'
-marks_on Open (Withdraw member n) mark now' stood h = ap (λ x. x && now') h ∙ swap stood now'
+marks_on PreOpen c mark now' stood h = h
 marks_on Open Advance mark now' stood h = h
-marks_on PreClose (Enter member d limit volume) mark now' stood h = h
-marks_on PreClose (Alter member n price volume) mark now' stood h = h
-marks_on PreClose (Withdraw member n) mark now' stood h = h
+marks_on Open c mark now' stood h = ap (λ x. x && now') h ∙ swap stood now'
 marks_on PreClose Advance mark now' stood h = h
-marks_on Closed (Enter member d limit volume) mark now' stood h = h
-marks_on Closed (Alter member n price volume) mark now' stood h = h
-marks_on Closed (Withdraw member n) mark now' stood h = h
+marks_on PreClose c mark now' stood h = h
 marks_on Closed Advance mark now' stood h = h
+marks_on Closed c mark now' stood h = h
 
 -- the first order stands at p exactly if the best price is p
 best_is : (p : ℕ) (os : List Order) → first_at p os ≡ is_price p (best_listed os)
@@ -87,30 +69,18 @@ marks_best stage c mark stood p os h =
     (marks_on stage c mark (first_at p os) stood h)
 
 -- the marks say what the journal says
-pub record Told (t : Terms) (past : List Line) (stage : Stage) (m : DayRecord) : Type 0 where
+pub record Says (t : Terms) (past : List Line) (stage : Stage) (m : DayRecord) : Type 0 where
   pub last : m.last_trade ≡ last_traded past
   pub high : Marked stage m.buy_at_high (throughout t Buy t.hi past)
   pub low : Marked stage m.sell_at_low (throughout t Sell t.lo past)
 
--- what a feed does to the stage
-alter_stage : (n price volume : ℕ) (o : Option Order) (L : Ledger) → (alter_account n price volume o L).stage ≡ L.stage
-alter_stage n price volume None L = refl
-alter_stage n price volume (Some o) L =
-    cond_both (renews price volume o) (renew n price volume o L) (keep n price volume o L) (λ M. M.stage ≡ L.stage) (λ _. refl) (λ _. refl)
-
-feed_stage : (t : Terms) (c : Call) (a : Answer) (L : Ledger) → (feed t (fed c a) L).stage ≡ stage_after L.stage c
-feed_stage t (Enter member d limit volume) a L = refl
-feed_stage t (Alter member n price volume) a L = alter_stage n price volume (L.accounts n) L
-feed_stage t (Withdraw member n) a L = refl
-feed_stage t Advance a L = refl
-
 -- one line more
-module _ (t : Terms) (past : List Line) (b : Session) (x : Try) (g : Told t past b.day.stage b.marks) (same : b.day.stage ≡ (books t past).stage) where
+module _ (t : Terms) (past : List Line) (b : Session) (x : Try) (g : Says t past b.day.stage b.marks) (same : b.day.stage ≡ (books t past).stage) where
   abbrev line_of : Outcome → Line
   line_of out = record { asked = x; came = came b.day out }
 
   one_more : (out : Outcome) → (moved b.day out).stage ≡ (books t (line_of out ∷ past)).stage
-      → Told t (line_of out ∷ past) (moved b.day out).stage (marked t b.day.stage x.call b.marks out)
+      → Says t (line_of out ∷ past) (moved b.day out).stage (marked t b.day.stage x.call b.marks out)
   one_more (refused_by n) e = record { last = g.last; high = g.high; low = g.low }
   one_more (done after a slips) e =
       let L : Ledger = books t past in
@@ -128,9 +98,9 @@ module _ (t : Terms) (past : List Line) (b : Session) (x : Try) (g : Told t past
             (marks_best b.day.stage x.call b.marks.sell_at_low (throughout t Sell t.lo past) t.lo after.table.book.sells g.low));
       }
 
-told : (t : Terms) (cap : Capacity) (past : List Line) (s : Session) → Leads t cap past s → Told t past s.day.stage s.marks
-told t cap [] s e = subst (λ y. Told t [] y.day.stage y.marks) (sym e) (record { last = refl; high = refl; low = refl })
-told t cap (x ∷ past) s h =
+marks_say : (t : Terms) (cap : Capacity) (past : List Line) (s : Session) → Leads t cap past s → Says t past s.day.stage s.marks
+marks_say t cap [] s e = subst (λ y. Says t [] y.day.stage y.marks) (sym e) (record { last = refl; high = refl; low = refl })
+marks_say t cap (x ∷ past) s h =
     let b : Session = h.0 in
     let out : Outcome = outcome t b.day x.asked in
     let y : Line = record { asked = x.asked; came = came b.day out } in
@@ -138,12 +108,12 @@ told t cap (x ∷ past) s h =
     let same : b.day.stage ≡ (books t past).stage = ap (λ d. d.stage) (leads_agrees t cap past b h.1).day_is in
     let next_same : (moved b.day out).stage ≡ (books t (y ∷ past)).stage =
     ap (λ d. d.stage) (leads_agrees t cap (y ∷ past) (worked t x.asked.call b out) (b, h.1, refl, refl)).day_is in
-    subst (λ o. Told t (x ∷ past) o.day.stage o.marks) h.3
-    (subst (λ z. Told t (z ∷ past) (moved b.day out).stage (marked t b.day.stage x.asked.call b.marks out)) here
-    (one_more t past b x.asked (told t cap past b h.1) same out next_same))
+    subst (λ o. Says t (x ∷ past) o.day.stage o.marks) h.3
+    (subst (λ z. Says t (z ∷ past) (moved b.day out).stage (marked t b.day.stage x.asked.call b.marks out)) here
+    (one_more t past b x.asked (marks_say t cap past b h.1) same out next_same))
 
 -- what the marks give at the end
-closing : (t : Terms) (past : List Line) (stage : Stage) (m : DayRecord) → Told t past stage m → next_reference_under t (left_by stage m) ≡ reference_at t stage past
+closing : (t : Terms) (past : List Line) (stage : Stage) (m : DayRecord) → Says t past stage m → next_reference_under t (left_by stage m) ≡ reference_at t stage past
 closing t past PreOpen m g = refl
 closing t past Open m g = refl
 closing t past PreClose m g = refl
@@ -154,5 +124,5 @@ closing t past Closed m g =
 
 pub ends_by_journal : EndsByJournal
 ends_by_journal t cap past s h =
-    closing t past s.day.stage s.marks (told t cap past s h)
+    closing t past s.day.stage s.marks (marks_say t cap past s h)
     ∙ ap (λ stage. reference_at t stage past) (ap (λ d. d.stage) (leads_agrees t cap past s h).day_is)

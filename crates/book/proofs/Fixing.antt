@@ -9,10 +9,11 @@ use Rattle.book.specs.declared.slip.Slip.TheVariants.{Trade}
 use Rattle.rules.specs.declared.terms.Terms.{Terms}
 use Rattle.book.proofs.Ranks.{InRank}
 use Rattle.book.specs.Exactly.{Before}
+use Rattle.book.specs.Ledger.{traded}
+use Rattle.book.specs.Calls.{limits, paired, fixing_price, less, Paired, pair, match_at}
 use Rattle.book.proofs.Members.{Member}
 use Rattle.rules.specs.Side.{willing}
 use Rattle.tables.specs.Listing.{with_volume}
-use Rattle.book.specs.Ledger.{traded}
 use Rattle.std.specs.Option.{option_map}
 use Rattle.rules.specs.Allotment.{Greatest}
 use Rattle.rules.specs.Book.{Book}
@@ -22,7 +23,6 @@ use Rattle.rules.specs.declared.candidate.Candidate.{Candidate}
 use Rattle.rules.proofs.Allots.{allotment_most}
 use Rattle.rules.proofs.Steps.{decided_by_steps, fixing_trades_the_most}
 use Rattle.tables.specs.Meaning.{book_of}
-use Rattle.book.specs.Day.{limits, paired, fixing_price, less, Paired, pair, match_at}
 use Rattle.book.proofs.Ranks.{InRank, ahead_of, rest_in, in_rank_from, no_worse}
 use Rattle.book.proofs.Trades.{unwilling_after}
 

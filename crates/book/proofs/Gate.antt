@@ -1,17 +1,23 @@
 -- What is known of a call that no row refuses.
-use Rattle.std.proofs.Common.{◌≡◌, ℕ, suc, ◌≤◌, ◌<◌, Bool, true, false, cond, not, List, [], ◌∷◌, length, Some, None, Option, Ok, Err, Result, refl, sym, ap, subst, ◌∙◌, arith, ◌==◌}
-use Rattle.std.proofs.lemmas.Bool.{both_ways, ltb-true, leb-true, not-true, cond-true}
-use Rattle.rules.specs.Entry.{unless, member_row, volume_row}
+use Rattle.std.proofs.Common.{◌≡◌, ℕ, ◌+◌, ◌≤◌, ◌<◌, Bool, true, false, not, ◌&&◌, List, [], ◌∷◌, length, Some, None, Option, Ok, Err, refl, arith, nat_lt}
+use Rattle.std.proofs.lemmas.Bool.{not-false}
+use Rattle.std.proofs.lemmas.Bool.Decides.{nat_tests}
+use Rattle.rules.specs.Entry.{row, is_volume}
 use Rattle.rules.specs.Side.{opposite}
 use Rattle.rules.specs.declared.order.Direction.{Direction}
 use Rattle.rules.specs.declared.order.Order.{Order}
 use Rattle.rules.specs.declared.terms.Terms.{Terms}
-use Rattle.tables.specs.Meaning.{Contents, listed, lookup}
-use Rattle.book.specs.declared.stage.Stage.{Stage}
+use Rattle.tables.specs.Meaning.{Contents, listed}
+use Rattle.book.specs.declared.call.Alteration.{Alteration}
 use Rattle.book.specs.declared.call.Call.{Call}
 use Rattle.book.specs.declared.call.Call.TheVariants.{Enter, Alter, Withdraw, Advance}
-use Rattle.book.specs.Day.{Day, Made, Outcome, refused_by, done_by, came_of, step, enter, alter, withdraw, advance, entering}
-use Rattle.book.specs.Rows.{first_row, by_row, on_ok, is_closed, is_open, strikes, closed_row, limit_row, market_row, arrivals_row, side_row, where_row, run_row, strike_row, orders_of, owned, entry_rows, enter_rows, order_rows, altering, withdrawing, advance_rows}
+use Rattle.book.specs.declared.call.NewOrder.{NewOrder}
+use Rattle.book.specs.declared.call.Withdrawal.{Withdrawal}
+use Rattle.book.specs.declared.stage.Stage.{Stage}
+use Rattle.book.specs.Calls.{Made, Outcome, refused_by, done_by, came_of, step, enter, alter, withdraw, advance, of_named}
+use Rattle.book.specs.Day.{Day}
+use Rattle.book.specs.Rows.{first_row, past_row, gated, beyond_band, all_given, has_place, short_of_trades, orders_of, short_of_strike, named, enter_rows, alter_rows, withdraw_rows, advance_rows}
+use Rattle.book.specs.Stages.{is_closed, is_open, strikes}
 
 abbrev pub Passes : List (Option ℕ) → Type 0
 Passes [] = Unit {0}
@@ -22,154 +28,122 @@ passes [] e = tt
 passes (None ∷ rs) e = (refl, passes rs e)
 passes (Some n ∷ rs) e = let z : ◌≡◌ {A = ℕ} 0 1 = cc in absurd (omega arith)
 
-pub unless_true : (b : Bool) (n : ℕ) → unless b n ≡ None → b ≡ true
-unless_true true n e = refl
-unless_true false n e = let z : ◌≡◌ {A = ℕ} 0 1 = cc in absurd (omega arith)
+row_false : (b : Bool) (n : ℕ) → row b n ≡ None → b ≡ false
+row_false false n e = refl
+row_false true n e = let z : ◌≡◌ {A = ℕ} 0 1 = cc in absurd (omega arith)
 
-pub not_closed : (stage : Stage) → closed_row stage ≡ None → is_closed stage ≡ false
-not_closed stage e = not-true (is_closed stage) (unless_true (not (is_closed stage)) 3 e)
+is_so : (b : Bool) (n : ℕ) → row (not b) n ≡ None → b ≡ true
+is_so b n e = not-false b (row_false (not b) n e)
 
-given : (tally : ℕ) → arrivals_row tally ≡ None → tally < 1000000
-given tally e = ltb-true tally 1000000 (unless_true _ 10 e)
+arrival_left : (tally : ℕ) → row (all_given tally) 10 ≡ None → tally < 1000000
+arrival_left tally e = let f : all_given tally ≡ false = row_false (all_given tally) 10 e in grind (arith, nat_tests)
 
-enough : (b : Bool) (room : ℕ) (d : Direction) (c : Contents) → where_row b (run_row room d c) ≡ None → b ≡ true → length (listed (opposite d) c) < room
-enough b room d c e h = ltb-true _ _ (unless_true _ 12 (sym (cond-true b (run_row room d c) None h) ∙ e))
+place_left : (d : Direction) (c : Contents) → row (not (has_place d c)) 11 ≡ None → length (listed d c) < c.capacity.places
+place_left d c e = let f : has_place d c ≡ true = is_so (has_place d c) 11 e in grind (arith, nat_tests)
 
--- Where a result is an order or whatever is made of it ----------------------------------------------------------------------
+-- where the first test holds, so does what is said of both
+both_false : (a b : Bool) → (a && b) ≡ false → a ≡ true → b ≡ false
+both_false true b e h = e
+both_false false b e h = let z : ◌≡◌ {A = ℕ} 0 1 = cc in absurd (omega arith)
 
-module _ {X : Type 0} where
-  abbrev is_ok : Result X ℕ → Bool
-  is_ok (Ok x) = true
-  is_ok (Err n) = false
+slips_left :
+    (stage : Stage) (d : Direction) (c : Contents) (room : ℕ) → row (short_of_trades stage d c room) 12 ≡ None → is_open stage ≡ true →
+    length (listed (opposite d) c) < room
+slips_left stage d c room e h =
+    let f : nat_lt room (length (listed (opposite d) c) + 1) ≡ false =
+    both_false (is_open stage) _ (row_false (short_of_trades stage d c room) 12 e) h
+    in
+    grind (arith, nat_tests)
 
-  not_err : {A : Type 0} (n : ℕ) (x : X) → Err n ≡ Ok x → A
-  not_err n x h = absurd (both_ways true (sym (ap is_ok h)) refl)
-
-  pub row_ok : (r : Option ℕ) (x : Result X ℕ) (y : X) → by_row r x ≡ Ok y → (r ≡ None) × (x ≡ Ok y)
-  row_ok None x y h = (refl, h)
-  row_ok (Some n) x y h = not_err n y h
-
-  pub ok_ok : {Y : Type 0} (r : Result Y ℕ) (go : Y → Result X ℕ) (x : X) → on_ok r go ≡ Ok x → (y : Y) × ((r ≡ Ok y) × (go y ≡ Ok x))
-  ok_ok (Ok y) go x h = (y, (refl, h))
-  ok_ok (Err n) go x h = not_err n x h
-
-abbrev or_else : Order → Result Order ℕ → Order
-or_else x (Ok o) = o
-or_else x (Err n) = x
-
-ok_same : (x y : Order) → ◌≡◌ {A = Result Order ℕ} (Ok x) (Ok y) → x ≡ y
-ok_same x y h = ap (or_else x) h
-
-pub owned_ok : (member : ℕ) (l : Option Order) (o : Order) → owned member l ≡ Ok o → l ≡ Some o
-owned_ok member None o h = not_err 7 o h
-owned_ok member (Some x) o h = go (member == x.member) h
-  where
-    go : (b : Bool) → cond {A = Result Order ℕ} b (Ok x) (Err 8) ≡ Ok o → Some x ≡ Some o
-    go true h = ap (λ z. Some z) (ok_same x o h)
-    go false h = not_err 8 o h
+strike_left : (stage : Stage) (c : Contents) (room : ℕ) → row (short_of_strike stage c room) 12 ≡ None → strikes stage ≡ true → orders_of c ≤ room
+strike_left stage c room e h =
+    let f : nat_lt room (orders_of c) ≡ false = both_false (strikes stage) _ (row_false (short_of_strike stage c room) 12 e) h in
+    grind (arith, nat_tests)
 
 -- Of each call --------------------------------------------------------------------------------------------------------------
 
-pub record Entry (t : Terms) (stage : Stage) (limit : Option ℕ) (volume : ℕ) : Type 0 where
-  pub closed : is_closed stage ≡ false
-  pub whole : volume_row t.block volume ≡ None
-  pub inside : limit_row t limit ≡ None
+pub record Enters (t : Terms) (day : Day) (e : NewOrder) (room : ℕ) : Type 0 where
+  pub closed : is_closed day.stage ≡ false
+  pub whole : is_volume t.block e.volume ≡ true
+  pub inside : beyond_band t e.limit ≡ false
+  pub given : day.tally < 1000000
+  pub place : length (listed e.direction day.table) < day.table.capacity.places
+  pub long : is_open day.stage ≡ true → length (listed (opposite e.direction) day.table) < room
 
-pub entry_passes : (t : Terms) (stage : Stage) (member : ℕ) (limit : Option ℕ) (volume : ℕ) → entry_rows t stage member limit volume ≡ None → Entry t stage limit volume
-entry_passes t stage member limit volume e =
-    let p = passes (closed_row stage ∷ member_row member ∷ volume_row t.block volume ∷ limit_row t limit ∷ []) e in
-    record { closed = not_closed stage p.0; whole = p.1.1.0; inside = p.1.1.1.0 }
-
-pub record Enters (t : Terms) (stage : Stage) (tally : ℕ) (c : Contents) (d : Direction) (limit : Option ℕ) (volume room : ℕ) : Type 0 where
-  pub entry : Entry t stage limit volume
-  pub given : tally < 1000000
-  pub place : length (listed d c) < c.capacity.places
-  pub long : is_open stage ≡ true → length (listed (opposite d) c) < room
-
-pub enter_passes :
-    (t : Terms) (stage : Stage) (tally : ℕ) (c : Contents) (member : ℕ) (d : Direction) (limit : Option ℕ) (volume room : ℕ) →
-    enter_rows t stage tally c member d limit volume room ≡ None → Enters t stage tally c d limit volume room
-enter_passes t stage tally c member d limit volume room e =
-    let p = passes (entry_rows t stage member limit volume ∷ arrivals_row tally ∷ side_row d c ∷ where_row (is_open stage) (run_row room d c) ∷ []) e in
+enter_passes : (t : Terms) (day : Day) (e : NewOrder) (room : ℕ) → Passes (enter_rows t day e room) → Enters t day e room
+enter_passes t day e room p =
     record {
-      entry = entry_passes t stage member limit volume p.0;
-      given = given tally p.1.0;
-      place = ltb-true _ _ (unless_true _ 11 p.1.1.0);
-      long = enough (is_open stage) room d c p.1.1.1.0;
+      closed = row_false _ 3 p.0;
+      whole = is_so _ 5 p.1.1.0;
+      inside = row_false _ 6 p.1.1.1.0;
+      given = arrival_left day.tally p.1.1.1.1.0;
+      place = place_left e.direction day.table p.1.1.1.1.1.0;
+      long = slips_left day.stage e.direction day.table room p.1.1.1.1.1.1.0;
     }
 
-pub record Alters (t : Terms) (stage : Stage) (tally : ℕ) (c : Contents) (n price volume room : ℕ) (o : Order) : Type 0 where
-  pub entry : Entry t stage (Some price) volume
-  pub found : lookup n c.book ≡ Some o
+pub record Alters (t : Terms) (day : Day) (a : Alteration) (room : ℕ) (o : Order) : Type 0 where
+  pub closed : is_closed day.stage ≡ false
+  pub whole : is_volume t.block a.volume ≡ true
+  pub inside : beyond_band t (Some a.price) ≡ false
+  pub found : named a.number day ≡ Some o
   pub limit : o.market ≡ false
-  pub given : tally < 1000000
-  pub long : is_open stage ≡ true → length (listed (opposite o.direction) c) < room
+  pub given : day.tally < 1000000
+  pub long : is_open day.stage ≡ true → length (listed (opposite o.direction) day.table) < room
 
-pub alter_passes :
-    (t : Terms) (stage : Stage) (tally : ℕ) (c : Contents) (member n price volume room : ℕ) (o : Order) →
-    altering t stage tally c member n price volume room ≡ Ok o → Alters t stage tally c n price volume room o
-alter_passes t stage tally c member n price volume room o e =
-    let a = row_ok (entry_rows t stage member (Some price) volume) _ o e in
-    let b = ok_ok (owned member (lookup n c.book)) _ o a.1 in
-    let x : Order = b.0 in
-    let r = row_ok (order_rows stage tally c room x) (Ok x) o b.1.1 in
-    let same : x ≡ o = ok_same x o r.1 in
-    let p = passes (market_row o ∷ arrivals_row tally ∷ where_row (is_open stage) (run_row room o.direction c) ∷ []) (subst (λ z. order_rows stage tally c room z ≡ None) same r.0) in
+alter_passes :
+    (t : Terms) (day : Day) (a : Alteration) (room : ℕ) (o : Order) → named a.number day ≡ Some o →
+    Passes (alter_rows t day a room (Some o)) → Alters t day a room o
+alter_passes t day a room o f p =
     record {
-      entry = entry_passes t stage member (Some price) volume a.0;
-      found = owned_ok member (lookup n c.book) x b.1.0 ∙ ap (λ z. Some z) same;
-      limit = not-true o.market (unless_true _ 9 p.0);
-      given = given tally p.1.0;
-      long = enough (is_open stage) room o.direction c p.1.1.0;
+      closed = row_false _ 3 p.0;
+      whole = is_so _ 5 p.1.1.0;
+      inside = row_false _ 6 p.1.1.1.0;
+      found = f;
+      limit = row_false _ 9 p.1.1.1.1.1.1.0;
+      given = arrival_left day.tally p.1.1.1.1.1.1.1.0;
+      long = slips_left day.stage o.direction day.table room p.1.1.1.1.1.1.1.1.0;
     }
 
-pub withdraw_passes : (stage : Stage) (c : Contents) (member n : ℕ) (o : Order) → withdrawing stage c member n ≡ Ok o → lookup n c.book ≡ Some o
-withdraw_passes stage c member n o e =
-    owned_ok member (lookup n c.book) o (row_ok (first_row (closed_row stage ∷ member_row member ∷ [])) _ o e).1
+pub record Advances (day : Day) (room : ℕ) : Type 0 where
+  pub closed : is_closed day.stage ≡ false
+  pub long : strikes day.stage ≡ true → orders_of day.table ≤ room
 
-pub record Advances (stage : Stage) (c : Contents) (room : ℕ) : Type 0 where
-  pub closed : is_closed stage ≡ false
-  pub long : strikes stage ≡ true → orders_of c ≤ room
-
-pub advance_passes : (stage : Stage) (c : Contents) (room : ℕ) → advance_rows stage c room ≡ None → Advances stage c room
-advance_passes stage c room e =
-    let p = passes (closed_row stage ∷ where_row (strikes stage) (strike_row room c) ∷ []) e in
-    record {
-      closed = not_closed stage p.0;
-      long = λ h. leb-true _ _ (unless_true _ 12 (sym (cond-true (strikes stage) (strike_row room c) None h) ∙ p.1.0));
-    }
+advance_passes : (day : Day) (room : ℕ) → Passes (advance_rows day room) → Advances day room
+advance_passes day room p = record { closed = row_false _ 3 p.0; long = strike_left day.stage day.table room p.1.0 }
 
 -- The rows once for all: what holds of a refusal, and of what each call makes where its rows pass, holds of every step.
 module _ (t : Terms) (day : Day) (room : ℕ) (Q : Call → Outcome → Type 0) where
   pub record Steps : Type 0 where
     pub refused : (c : Call) (n : ℕ) → Q c (refused_by n)
-    pub entered :
-        (member : ℕ) (d : Direction) (limit : Option ℕ) (volume : ℕ) → Enters t day.stage day.tally day.table d limit volume room →
-        Q (Enter member d limit volume) (done_by (enter day (entering t (suc day.tally) member d limit volume)))
-    pub altered :
-        (member n price volume : ℕ) (o : Order) → Alters t day.stage day.tally day.table n price volume room o →
-        Q (Alter member n price volume) (done_by (alter day price volume o))
-    pub withdrawn : (member n : ℕ) (o : Order) → lookup n day.table.book ≡ Some o → Q (Withdraw member n) (done_by (withdraw day o))
-    pub advanced : Advances day.stage day.table room → Q Advance (done_by (advance t day))
+    pub enters : (e : NewOrder) → Enters t day e room → Q (Enter e) (done_by (enter t day e))
+    pub alters : (a : Alteration) (o : Order) → Alters t day a room o → Q (Alter a) (done_by (alter day a o))
+    pub withdraws : (w : Withdrawal) (o : Order) → named w.number day ≡ Some o → Q (Withdraw w) (done_by (withdraw day o))
+    pub advances : Advances day room → Q Advance (done_by (advance t day))
 
   module _ (s : Steps) where
-    row_has : (c : Call) (r : Option ℕ) (m : Made) → (r ≡ None → Q c (done_by m)) → Q c (came_of (by_row r (Ok m)))
-    row_has c None m h = h refl
-    row_has c (Some n) m h = s.refused c n
+    made_has : (c : Call) (rows : List (Option ℕ)) (m : Made) → (Passes rows → Q c (done_by m)) → Q c (came_of (gated rows (Ok m)))
+    made_has c rows m h = go (first_row rows) refl
+      where
+        go : (r : Option ℕ) → first_row rows ≡ r → Q c (came_of (past_row r (Ok m)))
+        go None e = h (passes rows e)
+        go (Some n) e = s.refused c n
 
-    ok_has : (c : Call) (r : Result Order ℕ) (go : Order → Made) → ((o : Order) → r ≡ Ok o → Q c (done_by (go o))) → Q c (came_of (on_ok r (λ o. Ok (go o))))
-    ok_has c (Ok o) go h = h o refl
-    ok_has c (Err n) go h = s.refused c n
+    named_has :
+        (c : Call) (rows : Option Order → List (Option ℕ)) (held : Option Order) (make : Order → Made) →
+        ((o : Order) → held ≡ Some o → Passes (rows (Some o)) → Q c (done_by (make o))) →
+        Q c (came_of (gated (rows held) (of_named held make)))
+    named_has c rows (Some o) make h = made_has c (rows (Some o)) (make o) (h o refl)
+    named_has c rows None make h = go (first_row (rows None))
+      where
+        go : (r : Option ℕ) → Q c (came_of (past_row r (Err 7)))
+        go None = s.refused c 7
+        go (Some n) = s.refused c n
 
     pub of_step : (c : Call) → Q c (step t day c room)
-    of_step (Enter member d limit volume) =
-        row_has (Enter member d limit volume) (enter_rows t day.stage day.tally day.table member d limit volume room)
-        (enter day (entering t (suc day.tally) member d limit volume))
-        (λ e. s.entered member d limit volume (enter_passes t day.stage day.tally day.table member d limit volume room e))
-    of_step (Alter member n price volume) =
-        ok_has (Alter member n price volume) (altering t day.stage day.tally day.table member n price volume room) (alter day price volume)
-        (λ o e. s.altered member n price volume o (alter_passes t day.stage day.tally day.table member n price volume room o e))
-    of_step (Withdraw member n) =
-        ok_has (Withdraw member n) (withdrawing day.stage day.table member n) (withdraw day)
-        (λ o e. s.withdrawn member n o (withdraw_passes day.stage day.table member n o e))
-    of_step Advance = row_has Advance (advance_rows day.stage day.table room) (advance t day) (λ e. s.advanced (advance_passes day.stage day.table room e))
+    of_step (Enter e) = made_has (Enter e) (enter_rows t day e room) (enter t day e) (λ p. s.enters e (enter_passes t day e room p))
+    of_step (Alter a) =
+        named_has (Alter a) (alter_rows t day a room) (named a.number day) (alter day a)
+        (λ o f p. s.alters a o (alter_passes t day a room o f p))
+    of_step (Withdraw w) =
+        named_has (Withdraw w) (withdraw_rows day w) (named w.number day) (withdraw day) (λ o f p. s.withdraws w o f)
+    of_step Advance = made_has Advance (advance_rows day room) (advance t day) (λ p. s.advances (advance_passes day room p))

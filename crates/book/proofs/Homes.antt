@@ -5,12 +5,14 @@ use Rattle.rules.specs.declared.order.Order.{Order}
 use Rattle.rules.specs.declared.terms.Terms.{Terms}
 use Rattle.tables.specs.Listing.{with_volume, without}
 use Rattle.tables.specs.Meaning.{Capacity, Contents, added, each_side, held, holding, put_in, removed, takes}
+use Rattle.book.specs.declared.call.Alteration.{Alteration}
 use Rattle.book.specs.declared.call.Call.{Call}
-use Rattle.book.specs.Rows.{is_open, strikes}
-use Rattle.book.specs.Day.{Day, Made, Outcome, refused_by, done, entering, altered, Swept, sweep_of, settled, entered, dealt, placed, trades_again, alter, advance, step}
-use Rattle.book.proofs.Gate.{of_step}
+use Rattle.book.specs.Stages.{is_open, strikes}
+use Rattle.book.specs.Day.{Day}
+use Rattle.book.specs.Calls.{Made, Outcome, refused_by, done, entering, altered, Swept, sweep_of, settled, entered, dealt, placed, trades_again, alter, advance, step}
 use Rattle.book.specs.Law.{Try}
 use Rattle.book.specs.Model.{moved, day_after}
+use Rattle.book.proofs.Gate.{of_step}
 
 abbrev Home : Capacity → Outcome → Type 0
 Home cap (refused_by n) = Unit {0}
@@ -37,9 +39,9 @@ entered_home : (trades : Bool) (e : Order) (T : Contents) → (entered trades e 
 entered_home true e T = settled_home e T (sweep_of e T)
 entered_home false e T = added_home e T
 
-alter_home : (day : Day) (price volume : ℕ) (o : Order) → (alter day price volume o).day.table.capacity ≡ day.table.capacity
-alter_home day price volume o =
-    entered_home (trades_again day.stage price o) (altered day.tally price volume o) (removed o.number day.table) ∙ removed_home o.number day.table
+alter_home : (day : Day) (a : Alteration) (o : Order) → (alter day a o).day.table.capacity ≡ day.table.capacity
+alter_home day a o =
+    entered_home (trades_again day.stage a o) (altered day.tally a o) (removed o.number day.table) ∙ removed_home o.number day.table
 
 advance_home : (t : Terms) (day : Day) → (advance t day).day.table.capacity ≡ day.table.capacity
 advance_home t day = cond_both (strikes day.stage) _ _ (λ (m : Made). m.day.table.capacity ≡ day.table.capacity) (λ _. refl) (λ _. refl)
@@ -49,10 +51,10 @@ step_home t day c room =
     of_step t day room (λ c out. Home day.table.capacity out)
     (record {
       refused = λ c n. tt;
-      entered = λ member d limit volume _. entered_home (is_open day.stage) (entering t (suc day.tally) member d limit volume) day.table;
-      altered = λ member n price volume o _. alter_home day price volume o;
-      withdrawn = λ member n o _. removed_home o.number day.table;
-      advanced = λ _. advance_home t day;
+      enters = λ e _. entered_home (is_open day.stage) (entering t (suc day.tally) e) day.table;
+      alters = λ a o _. alter_home day a o;
+      withdraws = λ w o _. removed_home o.number day.table;
+      advances = λ _. advance_home t day;
     }) c
 
 moved_home : (day : Day) (out : Outcome) → Home day.table.capacity out → (moved day out).table.capacity ≡ day.table.capacity

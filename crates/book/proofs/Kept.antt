@@ -9,21 +9,25 @@ use Rattle.rules.specs.declared.order.Order.{Order}
 use Rattle.rules.specs.declared.terms.Terms.{Terms}
 use Rattle.book.specs.declared.slip.Slip.{Slip}
 use Rattle.book.specs.declared.slip.Slip.TheVariants.{Trade, Lapse}
+use Rattle.book.specs.declared.call.Alteration.{Alteration}
 use Rattle.book.specs.declared.call.Call.{Call}
+use Rattle.book.specs.declared.call.Call.TheVariants.{Enter, Alter, Withdraw, Advance}
 use Rattle.book.specs.declared.answer.Answer.{Answer}
+use Rattle.book.specs.declared.answer.Told.{Told}
 use Rattle.book.proofs.Members.{listing, listed, Member}
 use Rattle.rules.specs.Side.{opposite, willing}
 use Rattle.tables.specs.Listing.{with_volume}
-use Rattle.book.specs.Ledger.{Accounts, Ledger, Live, Uncrossed, put, lowered, lower, feed, post, post_all, Along}
+use Rattle.book.specs.Ledger.{Accounts, Ledger, Live, Uncrossed, put, lowered, lower, following, renews, renew, keep, alter_account, feed, post, post_all, Along}
+use Rattle.book.specs.Stages.{is_open, is_closed}
+use Rattle.book.specs.Day.{Day}
+use Rattle.book.specs.Calls.{Outcome, refused_by, done}
+use Rattle.book.specs.Law.{mode, price_of, fed, Settled, Shown, Upheld}
 use Rattle.std.specs.List.{find}
 use Rattle.std.specs.Option.{option_or}
 use Rattle.rules.specs.Book.{Book, side}
 use Rattle.tables.specs.Listing.{numbered}
 use Rattle.tables.specs.Meaning.{Contents, Fits, lookup}
-use Rattle.book.specs.Rows.{is_open, is_closed}
-use Rattle.book.specs.Day.{Day, Outcome, refused_by, done}
 use Rattle.book.proofs.Sided.{sided}
-use Rattle.book.specs.Law.{mode, price_of, fed, Settled, Shown, Upheld}
 use Rattle.book.proofs.Accounts.{put_same, put_other}
 use Rattle.book.proofs.Trades.{Listed}
 
@@ -49,7 +53,7 @@ abbrev pub day_at : Ledger → Contents → Day
 day_at L table = record { stage = L.stage; tally = L.tally; table = table }
 
 -- an accepted call: L is the ledger before it, M that after the call and before its slips
-pub record Kept (t : Terms) (L : Ledger) (c : Call) (a : Answer) (M : Ledger) (slips : List Slip) (day : Day) : Type 0 where
+pub record Kept (t : Terms) (L : Ledger) (c : Call) (a : Answer Told) (M : Ledger) (slips : List Slip) (day : Day) : Type 0 where
   pub upheld : Upheld t L c a (mode L.stage c (price_of a)) M slips day.table.book
   pub opened : AllOpened t (post_all slips M).tally (post_all slips M).accounts
   pub stage : day.stage ≡ (post_all slips M).stage
@@ -66,6 +70,21 @@ pub post_stage : (ss : List Slip) (L : Ledger) → (post_all ss L).stage ≡ L.s
 post_stage [] L = refl
 post_stage (Trade b s q v ∷ ss) L = post_stage ss (post (Trade b s q v) L)
 post_stage (Lapse n v ∷ ss) L = post_stage ss (post (Lapse n v) L)
+
+-- the stage after an accepted call
+abbrev pub stage_after : Stage → Call → Stage
+stage_after stage Advance = following stage
+stage_after stage _ = stage
+
+alter_stage : (a : Alteration) (x : Option Order) (L : Ledger) → (alter_account a x L).stage ≡ L.stage
+alter_stage a None L = refl
+alter_stage a (Some o) L = cond_both (renews a o) (renew a o L) (keep a o L) (λ M. M.stage ≡ L.stage) (λ _. refl) (λ _. refl)
+
+pub feed_stage : (t : Terms) (c : Call) (a : Answer Told) (L : Ledger) → (feed t (fed c a) L).stage ≡ stage_after L.stage c
+feed_stage t (Enter e) a L = refl
+feed_stage t (Alter x) a L = alter_stage x (L.accounts x.number) L
+feed_stage t (Withdraw w) a L = refl
+feed_stage t Advance a L = refl
 
 pub post_tally : (ss : List Slip) (L : Ledger) → (post_all ss L).tally ≡ L.tally
 post_tally [] L = refl

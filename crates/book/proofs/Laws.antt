@@ -11,17 +11,18 @@ use Rattle.book.specs.declared.slip.Slip.{Slip}
 use Rattle.book.specs.declared.call.Call.{Call}
 use Rattle.book.specs.declared.call.Call.TheVariants.{Advance}
 use Rattle.book.specs.declared.answer.Answer.{Answer}
+use Rattle.book.specs.declared.answer.Told.{Told}
 use Rattle.book.specs.Counts.{with_count}
-use Rattle.book.specs.declared.answer.Told.TheVariants.{Advanced}
-use Rattle.book.specs.Rules.{next}
-use Rattle.rules.specs.Book.{side}
-use Rattle.tables.specs.Meaning.{Capacity, Contents, Fits, book_of, empty}
+use Rattle.book.specs.Stages.{next, is_closed, strikes}
 use Rattle.book.specs.Ledger.{Ledger, following, fresh, Live, Uncrossed, live_book, at_stage, post_all, traded}
-use Rattle.book.specs.Rows.{is_closed, strikes}
-use Rattle.book.proofs.Gate.{of_step}
-use Rattle.book.specs.Day.{refused_by, done, Day, new, turnover, Outcome, step, done_by, advance, pass_on, strike, fixing_price, match_at, Paired, lapses, limits}
+use Rattle.book.specs.Calls.{refused_by, done, turnover, Outcome, step, done_by, advance, pass_on, strike, fixing_price, match_at, Paired, lapses, limits}
+use Rattle.book.specs.Day.{Day, new}
 use Rattle.book.specs.Law.{fixing_at, advancing, SlipRight, GreatestFixing, PriceRight, Settled, Shown, Upheld, Try, book_keeping, ledger, Lawful, Law}
 use Rattle.book.specs.Model.{moved, result, day_after, model}
+use Rattle.book.specs.declared.answer.Told.TheVariants.{Advanced}
+use Rattle.rules.specs.Book.{side}
+use Rattle.tables.specs.Meaning.{Capacity, Contents, Fits, book_of, empty}
+use Rattle.book.proofs.Gate.{of_step}
 use Rattle.book.proofs.Members.{listing, listed, Member, Exactly}
 use Rattle.book.proofs.Ranks.{exactly_as}
 use Rattle.book.proofs.Trades.{Listed}
@@ -139,7 +140,7 @@ module _ (t : Terms) (L : Ledger) (tab : Contents) (inv : Inv t L tab) where
       let price : Option ℕ = fixing_price t tab.book in
       let p : Paired = match_at price buys sells in
       let c : Call = Advance in
-      let a : Answer = with_count (Advanced (next L.stage) price (turnover slips)) slips in
+      let a : Answer Told = with_count (Advanced (record { stage = next L.stage; price = price; traded = turnover slips })) slips in
       let M : Ledger = at_stage (following L.stage) L in
       let pr : PairedRight price M p =
       match_right price price refl buys sells M (listed_as Buy L M refl buys (listing (inv.shown.sides Buy)))
@@ -171,7 +172,10 @@ module _ (t : Terms) (L : Ledger) (tab : Contents) (inv : Inv t L tab) where
                   along_append (SlipRight (fixing_at price)) p.slips (lapses p.buys ++ lapses p.sells) M pr.along
                   (along_append (SlipRight (fixing_at price)) (lapses p.buys) (lapses p.sells) N lb.along ls.along);
               fixing = (greatest, price_right price (fixing_right t tab.book));
-              answer = ap (λ s. with_count (Advanced s price (turnover slips)) slips) (next_is L.stage) ∙ ap (λ v. with_count (Advanced (following L.stage) price v) slips) (turnover-traded slips);
+              answer =
+                  ap (λ s. with_count (Advanced (record { stage = s; price = price; traded = turnover slips })) slips) (next_is L.stage) ∙
+                  ap (λ v. with_count (Advanced (record { stage = following L.stage; price = price; traded = v })) slips)
+                  (turnover-traded slips);
               shown =
                   subst (λ K. Shown K (book_of (limits p.buys) (limits p.sells))) (sym end)
                   (record {
@@ -199,14 +203,14 @@ passed_on : (t : Terms) (L : Ledger) → L.stage ≡ Open → (tab : Contents) �
 passed_on t L e tab inv =
     let M : Ledger = at_stage (following L.stage) L in
     let at : following L.stage ≡ PreClose = ap following e in
-    let a : Answer = with_count (Advanced (next L.stage) None 0) [] in
+    let a : Answer Told = with_count (Advanced (record { stage = next L.stage; price = None; traded = 0 })) [] in
     record {
       upheld =
           subst (λ m. Upheld t L Advance a m M [] tab.book) (sym (ap (λ s. advancing s None) e))
           (record {
             each = tt;
             fixing = tt;
-            answer = ap (λ s. with_count (Advanced s None 0) []) (next_is L.stage);
+            answer = ap (λ s. with_count (Advanced (record { stage = s; price = None; traded = 0 })) []) (next_is L.stage);
             shown =
                 record {
                   sides = λ d. listed (listed_as d L M refl (side d tab.book) (listing (inv.shown.sides d)));
@@ -242,10 +246,10 @@ step_good t L tab inv c room =
     of_step t (day_at L tab) room (Good t L)
     (record {
       refused = λ c n. tt;
-      entered = λ member d limit volume k. enter_good t L tab inv member d limit volume room k;
-      altered = λ member n price volume o k. alter_good t L tab inv member n price volume room o k;
-      withdrawn = λ member n o e. withdraw_good t L tab inv member n o e;
-      advanced = λ k. advance_good t L tab inv k.closed;
+      enters = λ e k. enter_good t L tab inv e room k;
+      alters = λ a o k. alter_good t L tab inv a o room k;
+      withdraws = λ w o e. withdraw_good t L tab inv w o e;
+      advances = λ k. advance_good t L tab inv k.closed;
     }) c
 
 -- the session and its ledger agree

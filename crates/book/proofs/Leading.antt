@@ -2,7 +2,7 @@ use Rattle.std.proofs.Common.{List, [], ◌∷◌, sym, refl, subst}
 use Rattle.rules.specs.declared.terms.Terms.{Terms}
 use Rattle.tables.specs.Meaning.{Capacity}
 use Rattle.book.specs.Ledger.{Ledger, fresh}
-use Rattle.book.specs.Day.{Outcome}
+use Rattle.book.specs.Calls.{Outcome}
 use Rattle.book.specs.Law.{Came, book_keeping}
 use Rattle.book.specs.Model.{moved, result}
 use Rattle.book.specs.Journal.{Line, books}

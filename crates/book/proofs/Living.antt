@@ -7,6 +7,7 @@ use Rattle.rules.specs.declared.order.Direction.{Direction}
 use Rattle.rules.specs.declared.order.Direction.TheVariants.{Buy, Sell}
 use Rattle.rules.specs.declared.order.Order.{Order}
 use Rattle.rules.specs.declared.terms.Terms.{Terms}
+use Rattle.book.specs.declared.call.Alteration.{Alteration}
 use Rattle.book.specs.declared.call.Call.{Call}
 use Rattle.book.specs.declared.slip.Slip.{Slip}
 use Rattle.book.specs.declared.slip.Slip.TheVariants.{Trade, Lapse}
@@ -58,38 +59,34 @@ numbered_fall tally n v f h = numbered_put tally n (lowered v (f n)) f (at (f n)
     at None e o q = absurd (none_some o q)
     at (Some p) e o q = numbered_rewritten tally n p.price (p.volume - v) p.arrival p (h n p e) o q
 
-opening_number : (t : Terms) (n member : ℕ) (d : Direction) (limit : Option ℕ) (volume : ℕ) → (opening t n member d limit volume).number ≡ n
-opening_number t n member d None volume = refl
-opening_number t n member d (Some p) volume = refl
-
 abbrev Fine : Ledger → Type 0
 Fine L = AllNumbered L.tally L.accounts
 
-fine_alter : (n price volume : ℕ) (L : Ledger) (x : Option Order) → L.accounts n ≡ x → Fine L → Fine (alter_account n price volume x L)
-fine_alter n price volume L None e h = h
-fine_alter n price volume L (Some p) e h =
+fine_alter : (a : Alteration) (L : Ledger) (x : Option Order) → L.accounts a.number ≡ x → Fine L → Fine (alter_account a x L)
+fine_alter a L None e h = h
+fine_alter a L (Some p) e h =
     let more : AllNumbered (suc L.tally) L.accounts = numbered_more L.tally (suc L.tally) L.accounts (omega arith) h in
-    cond_both (renews price volume p) (renew n price volume p L) (keep n price volume p L) Fine
+    cond_both (renews a p) (renew a p L) (keep a p L) Fine
     (λ _.
-    numbered_put (suc L.tally) n (Some (rewritten price volume (suc L.tally) p)) L.accounts
-    (numbered_rewritten (suc L.tally) n price volume (suc L.tally) p (more n p e)) more)
+    numbered_put (suc L.tally) a.number (Some (rewritten a.price a.volume (suc L.tally) p)) L.accounts
+    (numbered_rewritten (suc L.tally) a.number a.price a.volume (suc L.tally) p (more a.number p e)) more)
     (λ _.
-    numbered_put L.tally n (Some (rewritten price volume p.arrival p)) L.accounts
-    (numbered_rewritten L.tally n price volume p.arrival p (h n p e)) h)
+    numbered_put L.tally a.number (Some (rewritten a.price a.volume p.arrival p)) L.accounts
+    (numbered_rewritten L.tally a.number a.price a.volume p.arrival p (h a.number p e)) h)
 
 fine_feed : (t : Terms) (f : Feed) (L : Ledger) → Fine L → Fine (feed t f L)
-fine_feed t (entry member d limit volume) L h =
-    let new : Order = opening t (suc L.tally) member d limit volume in
+fine_feed t (entry x) L h =
+    let new : Order = opening t (suc L.tally) x in
     numbered_put (suc L.tally) (suc L.tally) (Some new) L.accounts
     (λ o e.
     let r : new ≡ o = cc in
     record {
-      number = sym (ap (λ (z : Order). z.number) r) ∙ opening_number t (suc L.tally) member d limit volume;
+      number = sym (ap (λ (z : Order). z.number) r);
       above = omega arith;
       below = omega arith;
     })
     (numbered_more L.tally (suc L.tally) L.accounts (omega arith) h)
-fine_feed t (alteration n price volume) L h = fine_alter n price volume L (L.accounts n) refl h
+fine_feed t (alteration a) L h = fine_alter a L (L.accounts a.number) refl h
 fine_feed t (withdrawal n v) L h = numbered_fall L.tally n v L.accounts h
 fine_feed t progress L h = h
 

@@ -1,6 +1,6 @@
 -- Two lawful engines that refuse the same tries answer the same.
 use Rattle.std.proofs.Common.{◌≡◌, ℕ, false, ◌⊎◌, List, [], ◌∷◌, Some, None, Option, sym, refl, ap, ◌∙◌, subst, inl, inr, ⊎_elim, arith}
-use Rattle.std.proofs.lemmas.Bool.{cond_both, leb-true, both_ways}
+use Rattle.std.proofs.lemmas.Bool.{leb-true, both_ways}
 use Rattle.rules.specs.declared.order.Direction.{Direction}
 use Rattle.rules.specs.declared.order.Direction.TheVariants.{Buy, Sell}
 use Rattle.book.specs.declared.stage.Stage.{Stage}
@@ -12,8 +12,9 @@ use Rattle.book.specs.declared.slip.Slip.TheVariants.{Trade, Lapse}
 use Rattle.book.specs.declared.call.Call.{Call}
 use Rattle.book.specs.declared.call.Call.TheVariants.{Enter, Alter, Withdraw, Advance}
 use Rattle.book.specs.declared.answer.Answer.{Answer}
+use Rattle.book.specs.declared.answer.Told.{Told}
 use Rattle.tables.specs.Meaning.{Capacity}
-use Rattle.book.specs.Ledger.{live_book, following, Ledger, Live, First, Uncrossed, withdrawal, feed, renews, renew, keep, alter_account, post, post_all, Along}
+use Rattle.book.specs.Ledger.{live_book, following, Ledger, Live, First, Uncrossed, withdrawal, feed, post, post_all, Along}
 use Rattle.rules.proofs.Steps.{one_price}
 use Rattle.rules.specs.Book.{Book}
 use Rattle.book.specs.Law.{IsMarket, Try, Verdict, refused, accepted, Came, Engine, Law, Lawful, Upheld, Shown, Settled, Mode, fixing_at, continuous, quiet, mode, advancing, dealing, price_of, withdrawn, fed, due, book_keeping, ledger, Priced, TradeRight, LapseRight, InTurn, SlipRight, GreatestFixing, PriceRight, FixingRight}
@@ -21,7 +22,7 @@ use Rattle.book.specs.Pinned.{refusal, SameRefusals, Pinned}
 use Rattle.book.proofs.Members.{listing}
 use Rattle.book.proofs.Ranks.{before_irrefl, before_trans}
 use Rattle.book.proofs.Accounts.{not_both}
-use Rattle.book.proofs.Kept.{post_stage}
+use Rattle.book.proofs.Kept.{post_stage, stage_after, feed_stage}
 use Rattle.book.proofs.Split.{exactly_unique}
 use Rattle.book.proofs.Arrivals.{Arrivals, arrivals, arrivals_feed, arrivals_post, arrival_one}
 
@@ -46,10 +47,8 @@ module _ (t : Terms) (L : Ledger) where
   mode_one :
       (c : Call) (p q : Option ℕ) (xs ys : List Slip) → FixingRight t L (mode L.stage c p) xs →
       FixingRight t L (mode L.stage c q) ys → mode L.stage c p ≡ mode L.stage c q
-  mode_one (Enter member d limit volume) p q xs ys a b = refl
-  mode_one (Alter member n price volume) p q xs ys a b = refl
-  mode_one (Withdraw member n) p q xs ys a b = refl
   mode_one Advance p q xs ys a b = advancing_one L.stage p q xs ys a b
+  mode_one _ p q xs ys a b = refl
 
 -- The slips ---------------------------------------------------------------------------------------------------------------------
 
@@ -156,11 +155,6 @@ quiet_none L (Lapse n v ∷ xs) h = absurd h.0.may
 
 -- One call ------------------------------------------------------------------------------------------------------------------------
 
-alter_stage : (n price volume : ℕ) (x : Option Order) (L : Ledger) → (alter_account n price volume x L).stage ≡ L.stage
-alter_stage n price volume None L = refl
-alter_stage n price volume (Some o) L =
-    cond_both (renews price volume o) (renew n price volume o L) (keep n price volume o L) (λ K. K.stage ≡ L.stage) (λ _. refl) (λ _. refl)
-
 dealing_busy : (s : Stage) → (dealing s ≡ quiet) ⊎ Settled s
 dealing_busy PreOpen = inl refl
 dealing_busy Open = inr tt
@@ -174,21 +168,21 @@ advancing_busy PreClose p = inr tt
 advancing_busy Closed p = inl refl
 
 -- where slips are written, the stage after them is settled
-busy : (t : Terms) (L : Ledger) (c : Call) (a : Answer) (p : Option ℕ) → (mode L.stage c p ≡ quiet) ⊎ Settled (feed t (fed c a) L).stage
-busy t L (Enter member d limit volume) a p = dealing_busy L.stage
-busy t L (Alter member n price volume) a p =
-    subst (λ s. (dealing L.stage ≡ quiet) ⊎ Settled s) (sym (alter_stage n price volume (L.accounts n) L)) (dealing_busy L.stage)
-busy t L (Withdraw member n) a p = inl refl
-busy t L Advance a p = advancing_busy L.stage p
+busy_after : (s : Stage) (c : Call) (p : Option ℕ) → (mode s c p ≡ quiet) ⊎ Settled (stage_after s c)
+busy_after s (Enter e) p = dealing_busy s
+busy_after s (Alter a) p = dealing_busy s
+busy_after s (Withdraw w) p = inl refl
+busy_after s Advance p = advancing_busy s p
+
+busy : (t : Terms) (L : Ledger) (c : Call) (a : Answer Told) (p : Option ℕ) → (mode L.stage c p ≡ quiet) ⊎ Settled (feed t (fed c a) L).stage
+busy t L c a p = subst (λ s. (mode L.stage c p ≡ quiet) ⊎ Settled s) (sym (feed_stage t c a L)) (busy_after L.stage c p)
 
 fed_one :
-    (c : Call) (m m' : Mode) (L : Ledger) (a a' : Answer) (xs ys : List Slip) (N N' : Ledger) → a ≡ due c m L xs N → a' ≡ due c m' L ys N' →
+    (c : Call) (m m' : Mode) (L : Ledger) (a a' : Answer Told) (xs ys : List Slip) (N N' : Ledger) → a ≡ due c m L xs N → a' ≡ due c m' L ys N' →
     fed c a ≡ fed c a'
-fed_one (Enter member d limit volume) m m' L a a' xs ys N N' e f = refl
-fed_one (Alter member n price volume) m m' L a a' xs ys N N' e f = refl
-fed_one (Withdraw member n) m m' L a a' xs ys N N' e f =
-    ap (withdrawal n) (ap (λ (x : Answer). withdrawn x.told) e ∙ sym (ap (λ (x : Answer). withdrawn x.told) f))
-fed_one Advance m m' L a a' xs ys N N' e f = refl
+fed_one (Withdraw w) m m' L a a' xs ys N N' e f =
+    ap (withdrawal w.number) (ap (λ (x : Answer Told). withdrawn x.told) e ∙ sym (ap (λ (x : Answer Told). withdrawn x.told) f))
+fed_one _ m m' L a a' xs ys N N' e f = refl
 
 done_with : (slips : List Slip) (M : Ledger) (b : Book) → Settled M.stage → Shown (post_all slips M) b → DoneWith (post_all slips M)
 done_with slips M b k s =
@@ -203,13 +197,13 @@ book_one L b b' s k =
     λ i. record { buys = x i; sells = y i }
 
 -- the same slips, the same answer and the same book
-record Same (a a' : Answer) (xs ys : List Slip) (b b' : Book) : Type 0 where
+record Same (a a' : Answer Told) (xs ys : List Slip) (b b' : Book) : Type 0 where
   answer : a ≡ a'
   slips : xs ≡ ys
   book : b ≡ b'
 
 same_from :
-    (t : Terms) (L : Ledger) (c : Call) (a a' : Answer) (m : Mode) (M : Ledger) (xs ys : List Slip) (b b' : Book) →
+    (t : Terms) (L : Ledger) (c : Call) (a a' : Answer Told) (m : Mode) (M : Ledger) (xs ys : List Slip) (b b' : Book) →
     xs ≡ ys → Upheld t L c a m M xs b → Upheld t L c a' m M ys b' → Same a a' xs ys b b'
 same_from t L c a a' m M xs ys b b' e u w =
     let s : Shown (post_all xs M) b' = subst (λ z. Shown (post_all z M) b') (sym e) w.shown in
@@ -220,7 +214,7 @@ same_from t L c a a' m M xs ys b b' e u w =
     }
 
 call_one :
-    (t : Terms) (L : Ledger) → Arrivals L → (c : Call) (a a' : Answer) (xs ys : List Slip) (b b' : Book) →
+    (t : Terms) (L : Ledger) → Arrivals L → (c : Call) (a a' : Answer Told) (xs ys : List Slip) (b b' : Book) →
     Lawful t L c (accepted a xs) b → Lawful t L c (accepted a' ys) b' → Same a a' xs ys b b'
 call_one t L ar c a a' xs ys b b' u w =
     let m : Mode = mode L.stage c (price_of a) in

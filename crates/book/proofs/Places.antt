@@ -7,12 +7,13 @@ use Rattle.rules.specs.declared.terms.Terms.{Terms}
 use Rattle.tables.specs.Listing.{times}
 use Rattle.tables.specs.Meaning.{held, listed}
 use Rattle.tables.proofs.Keeps.{held_none}
-use Rattle.book.specs.Day.{Day, step}
+use Rattle.book.specs.Day.{Day}
+use Rattle.book.specs.Calls.{step}
 use Rattle.book.specs.Ledger.{Ledger}
 use Rattle.book.specs.Law.{ledger}
 use Rattle.book.specs.Model.{model, day_after}
-use Rattle.tables.specs.Meaning.{Capacity}
 use Rattle.book.specs.Places.{TakesByPlaces}
+use Rattle.tables.specs.Meaning.{Capacity}
 use Rattle.book.proofs.Homes.{home_after}
 use Rattle.book.proofs.Members.{listing}
 use Rattle.book.proofs.Calls.{none_next}
@@ -42,7 +43,7 @@ takes_by_places t cap past =
       capacity = home;
       fits = λ d. subst (λ (c : Capacity). length (listed d day.table) ≤ c.places) home (g.inv.fits d);
       taken =
-          λ member d limit volume.
-          let room : Bool = nat_lt (length (listed d day.table)) day.table.capacity.places in
+          λ e.
+          let room : Bool = nat_lt (length (listed e.direction day.table)) day.table.capacity.places in
           ap (λ h. room && not h) (not_held t (ledger model t cap past) day g) ∙ and_true room;
     }

@@ -13,10 +13,12 @@ use Rattle.rules.specs.Book.{Book, side}
 use Rattle.tables.specs.Meaning.{Contents, held, holding, each_side, listed, removed}
 use Rattle.book.proofs.Sided.{length-without}
 use Rattle.book.specs.Counts.{with_count}
-use Rattle.book.specs.Rows.{is_open, strikes, orders_of}
-use Rattle.book.specs.Day.{Day, Made, entering, altered, strike, fixing_price, match_at, Paired, paired, pair, less, lapses, Swept, swept, sweep, sweep_of, trade, lapse_left, arrived, entered, trades_again}
-use Rattle.book.proofs.Gate.{of_step}
+use Rattle.book.specs.Stages.{is_open, strikes}
+use Rattle.book.specs.Rows.{orders_of}
+use Rattle.book.specs.Day.{Day}
+use Rattle.book.specs.Calls.{Made, entering, altered, strike, fixing_price, match_at, Paired, paired, pair, less, lapses, Swept, swept, sweep, sweep_of, trade, lapse_left, arrived, entered, trades_again}
 use Rattle.book.specs.Room.{FitsRun, Room}
+use Rattle.book.proofs.Gate.{of_step}
 use Rattle.book.proofs.Fixing.{less_length, less_shorter}
 
 pub record Short (n : ℕ) (s : Swept) : Type 0 where
@@ -120,17 +122,17 @@ room_stands t day c room =
     of_step t day room (λ c out. FitsRun room out)
     (record {
       refused = λ c n. tt;
-      entered = λ member d limit volume k. (refl, entered_fits room (is_open day.stage) (entering t (suc day.tally) member d limit volume) day.table k.long);
-      altered =
-          λ member n price volume o k.
+      enters = λ e k. (refl, entered_fits room (is_open day.stage) (entering t (suc day.tally) e) day.table k.long);
+      alters =
+          λ a o k.
           let T : Contents = removed o.number day.table in (
             refl,
-            entered_fits room (trades_again day.stage price o) (altered day.tally price volume o) T
-                (λ h. let l = k.long (and_parts (is_open day.stage) (not (eqb price o.price)) h).0 in
+            entered_fits room (trades_again day.stage a o) (altered day.tally a o) T
+                (λ h. let l = k.long (and_parts (is_open day.stage) (not (eqb a.price o.price)) h).0 in
                 omega (arith, l, removed_short (opposite o.direction) o.number day.table)),
           );
-      withdrawn = λ member n o _. (refl, omega arith);
-      advanced =
+      withdraws = λ w o _. (refl, omega arith);
+      advances =
           λ k.
           cond_both (strikes day.stage) _ _ (λ (m : Made). ((with_count m.told m.slips).slips ≡ length m.slips) × (length m.slips ≤ room))
           (λ h. let l = k.long h in (refl, omega (arith, strike_fits t day, l)))

@@ -12,7 +12,7 @@ use Rattle.tables.specs.Listing.{times, insert, without}
 use Rattle.tables.specs.Meaning.{Contents, Fits, book_of, holding, listed, with_side, each_side, held, takes, put_in, added, removed}
 use Rattle.tables.proofs.Keeps.{held_none}
 use Rattle.book.proofs.Members.{Member}
-use Rattle.book.specs.Day.{dealt}
+use Rattle.book.specs.Calls.{dealt}
 use Rattle.book.proofs.Ranks.{none_numbered}
 
 -- a book by one side and the side that it trades against

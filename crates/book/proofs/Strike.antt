@@ -8,11 +8,11 @@ use Rattle.book.specs.declared.slip.Slip.{Slip}
 use Rattle.book.specs.declared.slip.Slip.TheVariants.{Trade, Lapse}
 use Rattle.book.proofs.Ranks.{InRank}
 use Rattle.book.specs.Exactly.{Before}
+use Rattle.book.specs.Ledger.{Ledger, Live, Uncrossed, post, post_all, Along, traded}
+use Rattle.book.specs.Calls.{turnover, less, Paired, paired, pair, match_at, lapses, limits}
+use Rattle.book.specs.Law.{fixing_at, SlipRight, InTurn, IsMarket}
 use Rattle.book.proofs.Members.{Member}
 use Rattle.rules.specs.Side.{opposite, willing}
-use Rattle.book.specs.Ledger.{Ledger, Live, Uncrossed, post, post_all, Along, traded}
-use Rattle.book.specs.Day.{turnover, less, Paired, paired, pair, match_at, lapses, limits}
-use Rattle.book.specs.Law.{fixing_at, SlipRight, InTurn, IsMarket}
 use Rattle.book.proofs.Ranks.{InRank, ahead_of, rest_in, in_rank_from, before_irrefl}
 use Rattle.book.proofs.Accounts.{live_same, live_off, down, down_off, down_live, down_against, uncrossed_down, SellTurn, turn_down}
 use Rattle.book.proofs.Trades.{Listed, first_of, trade_step}

@@ -8,13 +8,13 @@ use Rattle.rules.specs.declared.order.Order.{Order}
 use Rattle.book.specs.declared.slip.Slip.{Slip}
 use Rattle.book.specs.declared.slip.Slip.TheVariants.{Trade}
 use Rattle.book.specs.Exactly.{Before}
+use Rattle.book.specs.Ledger.{Ledger, Live, First, post, post_all, Along, traded}
+use Rattle.book.specs.Calls.{less, trade, Swept, swept, sweep}
+use Rattle.book.specs.Law.{continuous, Entering, SlipRight}
 use Rattle.book.proofs.Members.{Exactly, Member}
 use Rattle.rules.specs.Rank.{before}
 use Rattle.rules.specs.Side.{opposite, willing}
 use Rattle.tables.specs.Listing.{insert, with_volume}
-use Rattle.book.specs.Ledger.{Ledger, Live, First, post, post_all, Along, traded}
-use Rattle.book.specs.Day.{less, trade, Swept, swept, sweep}
-use Rattle.book.specs.Law.{continuous, Entering, SlipRight}
 use Rattle.book.proofs.Ranks.{ahead_of, insert_first, better_first, no_worse}
 use Rattle.book.proofs.Accounts.{down, down_at, down_off, down_own, down_against, live_same, not_both}
 

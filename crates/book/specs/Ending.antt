@@ -8,11 +8,11 @@ use Rattle.rules.specs.declared.order.Order.{Order}
 use Rattle.rules.specs.declared.terms.Terms.{Terms}
 use Rattle.tables.specs.Meaning.{Capacity}
 use Rattle.book.specs.declared.call.Call.{Call}
-use Rattle.book.specs.declared.call.Call.TheVariants.{Enter, Alter, Withdraw, Advance}
+use Rattle.book.specs.declared.call.Call.TheVariants.{Advance}
 use Rattle.book.specs.declared.slip.Slip.{Slip}
 use Rattle.book.specs.declared.slip.Slip.TheVariants.{Trade, Lapse}
 use Rattle.book.specs.declared.stage.Stage.{Stage}
-use Rattle.book.specs.declared.stage.Stage.TheVariants.{PreOpen, Open, PreClose, Closed}
+use Rattle.book.specs.declared.stage.Stage.TheVariants.{PreOpen, Open, Closed}
 use Rattle.book.specs.Journal.{Line, books}
 use Rattle.book.specs.Law.{Verdict, refused, accepted}
 use Rattle.book.specs.Leads.{Leads}
@@ -37,16 +37,10 @@ last_traded (x ∷ past) = option_or (last_in (slips_of x.came.result)) (last_tr
 
 -- when the best prices are looked at: right after the opening strike, and after an enter, alter or withdraw in Open
 abbrev pub looked : Stage → Call → Bool
-looked PreOpen (Enter member d limit volume) = false
-looked PreOpen (Alter member n price volume) = false
-looked PreOpen (Withdraw member n) = false
 looked PreOpen Advance = true
-looked Open (Enter member d limit volume) = true
-looked Open (Alter member n price volume) = true
-looked Open (Withdraw member n) = true
 looked Open Advance = false
-looked PreClose c = false
-looked Closed c = false
+looked Open c = true
+looked _ c = false
 
 -- the price of the best order of a side, which is the first listed
 abbrev pub best_listed : List Order → Option ℕ
@@ -72,12 +66,10 @@ throughout t d p (x ∷ past) =
 -- the last trade; else the highest price, where the best buy stood there throughout; else the lowest, likewise for the
 -- best sell; else the reference price. A session that was ended before Closed keeps the reference price
 abbrev pub reference_at : Terms → Stage → List Line → ℕ
-reference_at t PreOpen past = t.reference
-reference_at t Open past = t.reference
-reference_at t PreClose past = t.reference
 reference_at t Closed past =
     unwrap_or (last_traded past)
     (cond (throughout t Buy t.hi past) t.hi (cond (throughout t Sell t.lo past) t.lo t.reference))
+reference_at t _ past = t.reference
 
 abbrev pub reference_by : Terms → List Line → ℕ
 reference_by t past = reference_at t (books t past).stage past

@@ -1,6 +1,6 @@
 -- Rules with a flaw, most without the refusals that do not matter to it: the law must fail of each.
-use Rattle.std.specs.Prelude.{fold, ltb, ℕ, zero, suc, ◌+◌, ◌-◌, ◌/◌, Bool, cond, ◌&&◌, nat_le, List, [], ◌∷◌, ◌++◌, Some, None, Option}
-use Rattle.std.specs.Option.{option_map, unwrap_or}
+use Rattle.std.specs.Prelude.{fold, ltb, ℕ, zero, suc, ◌+◌, ◌-◌, ◌/◌, Bool, cond, not, ◌&&◌, nat_le, List, [], ◌∷◌, ◌++◌, Some, None, Option}
+use Rattle.std.specs.Option.{option_map, option_or, unwrap_or}
 use Rattle.rules.specs.Book.{Book, side}
 use Rattle.rules.specs.Curve.{candidate}
 use Rattle.rules.specs.Fixing.{priced}
@@ -11,23 +11,22 @@ use Rattle.rules.specs.declared.candidate.Candidate.{Candidate}
 use Rattle.tables.specs.Meaning.{book_of, each_side, empty, holding, listed, lookup, volume_set, with_side}
 use Rattle.tables.specs.Listing.{with_volume}
 use Rattle.rules.specs.declared.order.Direction.{Direction}
-use Rattle.book.specs.declared.stage.Stage.{Stage}
-use Rattle.book.specs.declared.stage.Stage.TheVariants.{PreOpen, Open, PreClose, Closed}
 use Rattle.rules.specs.declared.order.Order.{Order}
 use Rattle.rules.specs.declared.terms.Terms.{Terms}
 use Rattle.book.specs.declared.slip.Slip.{Slip}
 use Rattle.book.specs.declared.slip.Slip.TheVariants.{Trade, Lapse}
+use Rattle.book.specs.declared.call.Alteration.{Alteration}
+use Rattle.book.specs.declared.call.Call.{Call}
 use Rattle.book.specs.declared.call.Call.TheVariants.{Enter, Alter, Advance}
+use Rattle.book.specs.declared.call.NewOrder.{NewOrder}
 use Rattle.book.specs.declared.answer.Answer.{Answer}
 use Rattle.book.specs.declared.answer.Told.{Told}
 use Rattle.book.specs.declared.answer.Told.TheVariants.{Entered, Altered, Withdrawn, Advanced}
 use Rattle.rules.specs.Side.{better, opposite, willing}
-use Rattle.book.specs.Ledger.{rewritten}
-use Rattle.book.specs.Rules.{market_price, next}
 use Rattle.book.specs.Law.{Law, Engine, Came, Verdict, refused, accepted}
-use Rattle.book.specs.Counts.{with_count}
-use Rattle.book.specs.Rows.{is_open}
-use Rattle.book.specs.Day.{Day, entering, Outcome, refused_by, done, step, enter, trade, done_by, Made, let_in, settled, queued, placed, dealt, Swept, sweep, sweep_of, fixing_price, Paired, match_at, lapses, limits, struck, turnover}
+use Rattle.book.specs.Stages.{is_open, next, strikes}
+use Rattle.book.specs.Day.{Day}
+use Rattle.book.specs.Calls.{market_price, entering, Outcome, refused_by, done, step, let_enter, enter_reply, alter_reply, trade, done_by, Made, Arrived, let_in, settled, queued, placed, dealt, Swept, sweep, sweep_of, fixing_price, Paired, match_at, lapses, limits, struck, struck_book, turnover}
 use Rattle.book.specs.Model.{Step, engine, model}
 
 -- the law fails of this engine
@@ -40,41 +39,41 @@ Fails f = Unlawful (engine f)
 
 -- Answers -------------------------------------------------------------------------------------------------------------
 
-abbrev pub answering : (Answer → Answer) → Outcome → Outcome
+abbrev pub answering : (Answer Told → Answer Told) → Outcome → Outcome
 answering f (refused_by n) = refused_by n
 answering f (done day a slips) = done day (f a) slips
 
 -- another thing told
 abbrev telling : (Told → Told) → Outcome → Outcome
-telling f out = answering (λ a. record { told = f a.told; slips = a.slips }) out
+telling f out = answering (λ a. record a { told = f a.told }) out
 
 abbrev one_up : Told → Told
-one_up (Entered n traded held) = Entered (suc n) traded held
+one_up (Entered x) = Entered (record x { number = suc x.number })
 one_up told = told
 
 -- enter answers a number that is not the order's
 abbrev pub wrong_number : Step
 wrong_number t day c room = telling one_up (step t day c room)
 
-abbrev miscounted : Answer → Answer
-miscounted a = record { told = a.told; slips = 0 }
+abbrev miscounted : Answer Told → Answer Told
+miscounted a = record a { slips = 0 }
 
 -- every call answers that it wrote no slip
 abbrev pub no_count : Step
 no_count t day c room = answering miscounted (step t day c room)
 
 abbrev no_volume_of : Told → Told
-no_volume_of (Entered n traded held) = Entered n 0 held
-no_volume_of (Altered traded held) = Altered 0 held
-no_volume_of (Withdrawn v) = Withdrawn v
-no_volume_of (Advanced stage price traded) = Advanced stage price 0
+no_volume_of (Entered x) = Entered (record x { traded = 0 })
+no_volume_of (Altered x) = Altered (record x { traded = 0 })
+no_volume_of (Advanced x) = Advanced (record x { traded = 0 })
+no_volume_of told = told
 
 -- every call answers that nothing was traded
 abbrev pub no_volume : Step
 no_volume t day c room = telling no_volume_of (step t day c room)
 
 abbrev one_less : Told → Told
-one_less (Withdrawn v) = Withdrawn (v - 1)
+one_less (Withdrawn x) = Withdrawn (record { volume = x.volume - 1 })
 one_less told = told
 
 -- withdraw answers less than it takes
@@ -82,25 +81,47 @@ abbrev pub part_withdrawal : Step
 part_withdrawal t day c room = telling one_less (step t day c room)
 
 abbrev with_price : Told → Told
-with_price (Advanced stage None traded) = Advanced stage (Some 1) traded
+with_price (Advanced x) = Advanced (record x { price = option_or x.price (Some 1) })
 with_price told = told
 
 -- there is always a price
 abbrev pub always_priced : Step
 always_priced t day c room = telling with_price (step t day c room)
 
--- Strikes -------------------------------------------------------------------------------------------------------------
+-- One call changed ----------------------------------------------------------------------------------------------------
 
-abbrev striking_at : (Day → Made) → Terms → Day → ℕ → Stage → Outcome
-striking_at f t day room PreOpen = done_by (f day)
-striking_at f t day room Open = step t day Advance room
-striking_at f t day room PreClose = done_by (f day)
-striking_at f t day room Closed = refused_by 3
+-- what another rule makes of some calls on some days
+abbrev pub Other : Type 0
+Other = Terms → Day → Call → Option Made
+
+abbrev pub done_or : Option Made → Outcome → Outcome
+done_or None out = out
+done_or (Some m) out = done_by m
+
+-- the rules, but for what the other rule makes; that it never refuses
+abbrev pub but_for : Other → Step
+but_for f t day c room = done_or (f t day c) (step t day c room)
+
+abbrev pub of_enter : (Terms → Day → NewOrder → Option Made) → Other
+of_enter f t day (Enter e) = f t day e
+of_enter f t day _ = None
+
+abbrev pub of_alter : (Terms → Day → Alteration → Option Made) → Other
+of_alter f t day (Alter a) = f t day a
+of_alter f t day _ = None
+
+abbrev pub of_advance : (Terms → Day → Option Made) → Other
+of_advance f t day Advance = f t day
+of_advance f t day _ = None
+
+abbrev pub only_if : Bool → Made → Option Made
+only_if b m = cond b (Some m) None
+
+-- Strikes -------------------------------------------------------------------------------------------------------------
 
 -- the rules with another strike
 abbrev pub striking : (Terms → Day → Made) → Step
-striking f t day Advance room = striking_at (f t) t day room day.stage
-striking f t day c room = step t day c room
+striking f = but_for (of_advance (λ t day. only_if (strikes day.stage) (f t day)))
 
 -- the rules with another fixing price
 abbrev pub fixing_by : (Terms → Book → Option ℕ) → Step
@@ -160,8 +181,8 @@ lapsed_first t day =
     let m : Paired = match_at price b.buys b.sells in
     let slips : List Slip = lapses old.buys ++ (lapses old.sells ++ m.slips) in
     record {
-      day = record { stage = next day.stage; tally = day.tally; table = holding day.table (book_of m.buys m.sells) };
-      told = Advanced (next day.stage) price (turnover slips);
+      day = record day { stage = next day.stage; table = holding day.table (book_of m.buys m.sells) };
+      told = Advanced (record { stage = next day.stage; price = price; traded = turnover slips });
       slips = slips;
     }
 
@@ -180,13 +201,8 @@ last_lapses t day =
     let m : Paired = match_at price b.buys b.sells in
     let slips : List Slip = m.slips ++ backwards (lapses m.buys ++ lapses m.sells) [] in
     record {
-      day =
-          record {
-            stage = next day.stage;
-            tally = day.tally;
-            table = holding day.table (book_of (limits m.buys) (limits m.sells));
-          };
-      told = Advanced (next day.stage) price (turnover slips);
+      day = record day { stage = next day.stage; table = holding day.table (struck_book m) };
+      told = Advanced (record { stage = next day.stage; price = price; traded = turnover slips });
       slips = slips;
     }
 
@@ -207,20 +223,21 @@ lower_price =
     let b : Book = day.table.book in
     let price : Option ℕ = fixing_price t b in
     let m : Paired = match_at price b.buys b.sells in
-    struck day price (record { slips = sold_at b m.slips; buys = m.buys; sells = m.sells }))
+    struck day price (record m { slips = sold_at b m.slips }))
 
 -- Trading in Open -----------------------------------------------------------------------------------------------------
 
 -- the rules with another enter in Open
 abbrev pub dealing_by : (Terms → Day → Order → Made) → Step
-dealing_by f t day (Enter member d limit volume) room =
-    cond (is_open day.stage) (done_by (f t day (entering t (suc day.tally) member d limit volume)))
-    (step t day (Enter member d limit volume) room)
-dealing_by f t day c room = step t day c room
+dealing_by f = but_for (of_enter (λ t day e. only_if (is_open day.stage) (f t day (entering t (suc day.tally) e))))
 
--- an order that enters in Open with this sweep
+-- an order that enters, and what comes of it
+abbrev enters : Day → Order → Arrived → Made
+enters day e a = let_in day e.number (enter_reply e.number) a
+
+-- in Open with this sweep
 abbrev arrive : Day → Order → Swept → Made
-arrive day e s = let_in day.stage e.number (Entered e.number) (settled e day.table s)
+arrive day e s = enters day e (settled e day.table s)
 
 -- an entering order pays whatever the first of the other side asks
 abbrev pub above_limit : Step
@@ -236,7 +253,7 @@ never_lapse =
     dealing_by
     (λ t day e.
     let s : Swept = sweep_of e day.table in
-    let_in day.stage e.number (Entered e.number)
+    enters day e
     (record {
       slips = s.slips;
       traded = e.volume - s.left;
@@ -257,7 +274,7 @@ slips_by f =
     (λ t day e.
     let s : Swept = sweep_of e day.table in
     arrive day e
-    (record { slips = f e s.slips; rest = s.rest; left = s.left }))
+    (record s { slips = f e s.slips }))
 
 -- an entering order trades at its own price
 abbrev pub own_price : Step
@@ -269,7 +286,7 @@ short_trade = slips_by (λ e ss. trades_by (λ q. q) (λ v. v - 1) ss)
 
 -- an order that enters in Open does not trade
 abbrev pub never_trades : Step
-never_trades = dealing_by (λ t day e. let_in day.stage e.number (Entered e.number) (queued e day.table))
+never_trades = dealing_by (λ t day e. enters day e (queued e day.table))
 
 -- half of the first order before the rest, where an order of this price and volume fills it on side d
 abbrev half_of_filled : Direction → ℕ → ℕ → List Order → List Order → List Order
@@ -285,7 +302,7 @@ half_stays =
     let against : List Order = listed (opposite e.direction) day.table in
     let s : Swept = sweep e.direction e.number e.price against e.volume in
     arrive day e
-    (record { slips = s.slips; rest = half_of_filled (opposite e.direction) e.price e.volume against s.rest; left = s.left }))
+    (record s { rest = half_of_filled (opposite e.direction) e.price e.volume against s.rest }))
 
 abbrev of_nothing : Direction → ℕ → List Order → List Slip → List Slip
 of_nothing d n [] ss = ss
@@ -299,7 +316,7 @@ empty_trade =
     let against : List Order = listed (opposite e.direction) day.table in
     let s : Swept = sweep e.direction e.number e.price against e.volume in
     arrive day e
-    (record { slips = of_nothing e.direction e.number against s.slips; rest = s.rest; left = s.left }))
+    (record s { slips = of_nothing e.direction e.number against s.slips }))
 
 -- the first two change places
 abbrev swapped : List Order → List Order
@@ -319,10 +336,12 @@ passed_over =
 
 -- a market buy has the lowest price of the band, and a market sell the highest
 abbrev pub exchanged_ends : Step
-exchanged_ends t day (Enter member d None volume) room =
-    let o : Order = entering t (suc day.tally) member d None volume in
-    done_by (enter day (rewritten (market_price t (opposite d)) o.volume o.arrival o))
-exchanged_ends t day c room = step t day c room
+exchanged_ends =
+    but_for
+    (of_enter
+    (λ t day e.
+    let o : Order = entering t (suc day.tally) e in
+    only_if o.market (let_enter day (record o { price = market_price t (opposite e.direction) }))))
 
 -- before all at its price
 abbrev ahead : Direction → Order → List Order → List Order
@@ -331,21 +350,31 @@ ahead d o (x ∷ xs) = cond (better d x.price o.price) (x ∷ ahead d o xs) (o �
 
 -- outside Open the last comer stands first at its price
 abbrev pub last_first : Step
-last_first t day (Enter member d limit volume) room =
-    let e : Order = entering t (suc day.tally) member d limit volume in
+last_first =
+    but_for
+    (of_enter
+    (λ t day e.
+    let o : Order = entering t (suc day.tally) e in
+    let d : Direction = e.direction in
     let b : Book = day.table.book in
-    cond (is_open day.stage) (step t day (Enter member d limit volume) room)
-    (done
-    (record { stage = day.stage; tally = e.number; table = holding day.table (with_side d (ahead d e (side d b)) b) })
-    (with_count (Entered e.number 0 volume) []) [])
-last_first t day c room = step t day c room
+    only_if (not (is_open day.stage))
+    (enters day o
+    (record {
+      slips = [];
+      traded = 0;
+      held = o.volume;
+      table = holding day.table (with_side d (ahead d o (side d b)) b);
+    }))))
 
 -- an alter leaves price, place and arrival as they are, and sets the volume
 abbrev pub old_arrival : Step
-old_arrival t day (Alter member n price volume) room =
-    done (record { stage = day.stage; tally = day.tally; table = volume_set n volume day.table })
-    (with_count (Altered 0 volume) []) []
-old_arrival t day c room = step t day c room
+old_arrival =
+    but_for
+    (of_alter
+    (λ t day a.
+    Some
+    (let_in day day.tally alter_reply
+    (record { slips = []; traded = 0; held = a.volume; table = volume_set a.number a.volume day.table }))))
 
 -- Refusals ------------------------------------------------------------------------------------------------------------
 

@@ -1,5 +1,5 @@
 -- The law of the book, of any engine, in the words of the ledger alone.
-use Rattle.std.specs.Prelude.{◌≡◌, ℕ, suc, ◌≤◌, min, true, false, ◌⊎◌, List, [], ◌∷◌, Some, None, Option}
+use Rattle.std.specs.Prelude.{◌≡◌, ℕ, suc, ◌≤◌, min, true, false, ◌⊎◌, List, [], ◌∷◌, length, Some, None, Option}
 use Rattle.rules.specs.declared.order.Direction.{Direction}
 use Rattle.rules.specs.declared.order.Direction.TheVariants.{Buy, Sell}
 use Rattle.book.specs.declared.stage.Stage.{Stage}
@@ -12,7 +12,6 @@ use Rattle.book.specs.declared.call.Call.{Call}
 use Rattle.book.specs.declared.call.Call.TheVariants.{Enter, Alter, Withdraw, Advance}
 use Rattle.book.specs.declared.answer.Answer.{Answer}
 use Rattle.book.specs.declared.answer.Told.{Told}
-use Rattle.book.specs.Counts.{with_count}
 use Rattle.book.specs.declared.answer.Told.TheVariants.{Entered, Altered, Withdrawn, Advanced}
 use Rattle.book.specs.Exactly.{Before, Lists}
 use Rattle.rules.specs.Side.{willing}
@@ -50,7 +49,7 @@ pub record Try : Type 0 where
 -- what a call is answered: the number of its refusal, or an answer with the slips that it wrote
 pub data Verdict : Type 0 where
   refused : ℕ → Verdict
-  accepted : Answer → List Slip → Verdict
+  accepted : Answer Told → List Slip → Verdict
 
 -- what came of a try, and the book after it
 pub record Came : Type 0 where
@@ -65,14 +64,14 @@ Engine = Terms → Capacity → List Try → Try → Came
 
 -- of the answers, only the volume that withdraw names
 abbrev pub withdrawn : Told → ℕ
-withdrawn (Withdrawn v) = v
+withdrawn (Withdrawn w) = w.volume
 withdrawn _ = 0
 
 -- what an accepted call feeds the ledger
-abbrev pub fed : Call → Answer → Feed
-fed (Enter member d limit volume) a = entry member d limit volume
-fed (Alter member n price volume) a = alteration n price volume
-fed (Withdraw member n) a = withdrawal n (withdrawn a.told)
+abbrev pub fed : Call → Answer Told → Feed
+fed (Enter e) a = entry e
+fed (Alter x) a = alteration x
+fed (Withdraw w) a = withdrawal w.number (withdrawn a.told)
 fed Advance a = progress
 
 -- an accepted call and then its slips; a refused one is not fed
@@ -87,10 +86,10 @@ ledger e t cap (x ∷ past) = book_keeping t x.call (e t cap past x).result (led
 -- Mode ---------------------------------------------------------------------------------------------------------------------
 
 abbrev pub price_told : Told → Option ℕ
-price_told (Advanced stage price traded) = price
+price_told (Advanced x) = x.price
 price_told _ = None
 
-abbrev pub price_of : Answer → Option ℕ
+abbrev pub price_of : Answer Told → Option ℕ
 price_of a = price_told a.told
 
 pub data Mode : Type 0 where
@@ -115,10 +114,10 @@ dealing Closed = quiet
 
 -- how an accepted call of a stage trades, by the price that it answered
 abbrev pub mode : Stage → Call → Option ℕ → Mode
-mode stage (Enter member d limit volume) price = dealing stage
-mode stage (Alter member n p volume) price = dealing stage
-mode stage (Withdraw member n) price = quiet
+mode stage (Enter e) price = dealing stage
+mode stage (Alter x) price = dealing stage
 mode stage Advance price = advancing stage price
+mode stage _ price = quiet
 
 -- Priority -----------------------------------------------------------------------------------------------------------------
 
@@ -214,15 +213,22 @@ fixed_at quiet = None
 
 -- what is due to be told, with L the ledger before the call and M that after its slips
 abbrev pub due_told : Call → Mode → Ledger → List Slip → Ledger → Told
-due_told (Enter member d limit volume) m L slips M =
-    Entered (suc L.tally) (traded (own slips)) (balance (M.accounts (suc L.tally)))
-due_told (Alter member n price volume) m L slips M = Altered (traded (own slips)) (balance (M.accounts n))
-due_told (Withdraw member n) m L slips M = Withdrawn (balance (L.accounts n))
-due_told Advance m L slips M = Advanced (following L.stage) (fixed_at m) (traded (own slips))
+due_told (Enter e) m L slips M =
+    Entered
+    (record {
+      number = suc L.tally;
+      traded = traded (own slips);
+      held = balance (M.accounts (suc L.tally));
+    })
+due_told (Alter x) m L slips M =
+    Altered (record { traded = traded (own slips); held = balance (M.accounts x.number) })
+due_told (Withdraw w) m L slips M = Withdrawn (record { volume = balance (L.accounts w.number) })
+due_told Advance m L slips M =
+    Advanced (record { stage = following L.stage; price = fixed_at m; traded = traded (own slips) })
 
 -- the answer that is due counts all slips
-abbrev pub due : Call → Mode → Ledger → List Slip → Ledger → Answer
-due c m L slips M = with_count (due_told c m L slips M) slips
+abbrev pub due : Call → Mode → Ledger → List Slip → Ledger → Answer Told
+due c m L slips M = record { told = due_told c m L slips M; slips = length slips }
 
 -- Faithful lists and gap -------------------------------------------------------------------------------------------------------
 
@@ -243,7 +249,7 @@ pub record Shown (L : Ledger) (b : Book) : Type 0 where
 -- The law ------------------------------------------------------------------------------------------------------------------------
 
 -- an accepted call, with L the ledger before it, M that after it and before its slips, and b the book after it
-pub record Upheld (t : Terms) (L : Ledger) (c : Call) (a : Answer) (m : Mode) (M : Ledger) (slips : List Slip) (b : Book) : Type 0 where
+pub record Upheld (t : Terms) (L : Ledger) (c : Call) (a : Answer Told) (m : Mode) (M : Ledger) (slips : List Slip) (b : Book) : Type 0 where
   pub each : Along (SlipRight m) M slips
   pub fixing : FixingRight t L m slips
   pub answer : a ≡ due c m L slips (post_all slips M)

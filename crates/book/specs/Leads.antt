@@ -3,7 +3,8 @@
 use Rattle.std.specs.Prelude.{◌≡◌, List, [], ◌∷◌}
 use Rattle.rules.specs.declared.terms.Terms.{Terms}
 use Rattle.tables.specs.Meaning.{Capacity}
-use Rattle.book.specs.Day.{Day, Outcome, step}
+use Rattle.book.specs.Calls.{Outcome, step}
+use Rattle.book.specs.Day.{Day}
 use Rattle.book.specs.Marks.{Session, begun, worked}
 use Rattle.book.specs.Law.{Try, Lawful}
 use Rattle.book.specs.Model.{came}

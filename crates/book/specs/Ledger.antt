@@ -1,9 +1,12 @@
 -- The ledger: what the accepted calls, withdraw's answers and the slips say of every order. It sees nothing of a table.
-use Rattle.std.specs.Prelude.{◌≡◌, ℕ, zero, suc, ◌+◌, ◌-◌, ◌<◌, Bool, true, cond, ◌&&◌, ◌⊎◌, List, [], ◌∷◌, Some, None, Option, ◌==◌, nat_lt}
-use Rattle.rules.specs.Book.{Book, limit as limit_order}
+use Rattle.std.specs.Prelude.{◌≡◌, ℕ, zero, suc, ◌+◌, ◌-◌, ◌<◌, Bool, true, cond, ◌&&◌, ◌⊎◌, List, [], ◌∷◌, Some, None, Option, is_none, ◌==◌, nat_lt}
+use Rattle.std.specs.Option.{unwrap_or}
+use Rattle.rules.specs.Book.{Book}
 use Rattle.rules.specs.Side.{same}
 use Rattle.rules.specs.declared.order.Direction.{Direction}
 use Rattle.rules.specs.declared.order.Direction.TheVariants.{Buy, Sell}
+use Rattle.book.specs.declared.call.Alteration.{Alteration}
+use Rattle.book.specs.declared.call.NewOrder.{NewOrder}
 use Rattle.book.specs.declared.stage.Stage.{Stage}
 use Rattle.book.specs.declared.stage.Stage.TheVariants.{PreOpen, Open, PreClose, Closed}
 use Rattle.rules.specs.declared.order.Order.{Order}
@@ -27,13 +30,13 @@ fresh = record { stage = PreOpen; tally = 0; accounts = λ _. None }
 
 -- one part set, the others as they are
 abbrev pub at_stage : Stage → Ledger → Ledger
-at_stage stage L = record { stage = stage; tally = L.tally; accounts = L.accounts }
+at_stage stage L = record L { stage = stage }
 
 abbrev pub at_tally : ℕ → Ledger → Ledger
-at_tally tally L = record { stage = L.stage; tally = tally; accounts = L.accounts }
+at_tally tally L = record L { tally = tally }
 
 abbrev pub posted : Accounts → Ledger → Ledger
-posted accounts L = record { stage = L.stage; tally = L.tally; accounts = accounts }
+posted accounts L = record L { accounts = accounts }
 
 -- the account n set, and the others as they are
 abbrev pub put : ℕ → Option Order → Accounts → Accounts
@@ -44,16 +47,7 @@ set n o L = posted (put n (Some o) L.accounts) L
 
 -- the order with another price, balance and arrival
 abbrev pub rewritten : ℕ → ℕ → ℕ → Order → Order
-rewritten price volume arrival o =
-    record {
-      number = o.number;
-      member = o.member;
-      direction = o.direction;
-      price = price;
-      market = o.market;
-      volume = volume;
-      arrival = arrival;
-    }
+rewritten price volume arrival o = record o { price = price; volume = volume; arrival = arrival }
 
 abbrev pub lowered : ℕ → Option Order → Option Order
 lowered v None = None
@@ -103,10 +97,9 @@ live_book L = record { buys = live_upto Buy L L.tally; sells = live_upto Sell L 
 -- What is fed ---------------------------------------------------------------------------------------------------------
 
 pub data Feed : Type 0 where
-  -- member, side, limit or none, volume
-  entry : ℕ → Direction → Option ℕ → ℕ → Feed
-  -- number, price and balance wanted
-  alteration : ℕ → ℕ → ℕ → Feed
+  entry : NewOrder → Feed
+  -- the price and the balance wanted
+  alteration : Alteration → Feed
   -- number, volume answered
   withdrawal : ℕ → ℕ → Feed
   progress : Feed
@@ -116,17 +109,16 @@ abbrev pub at_market : Terms → Direction → ℕ
 at_market t Buy = t.hi
 at_market t Sell = t.lo
 
--- a limit order and a market order of a number, which is its arrival too
-abbrev pub opening : Terms → ℕ → ℕ → Direction → Option ℕ → ℕ → Order
-opening t n member d (Some p) volume = limit_order n member d p volume
-opening t n member d None volume =
+-- the order of an account that is opened; its number is its arrival too, and without a limit it is a market order
+abbrev pub opening : Terms → ℕ → NewOrder → Order
+opening t n e =
     record {
       number = n;
-      member = member;
-      direction = d;
-      price = at_market t d;
-      market = true;
-      volume = volume;
+      member = e.member;
+      direction = e.direction;
+      price = unwrap_or e.limit (at_market t e.direction);
+      market = is_none e.limit;
+      volume = e.volume;
       arrival = n;
     }
 
@@ -138,26 +130,24 @@ following PreClose = Closed
 following Closed = Closed
 
 -- the price changes or the balance rises
-abbrev pub renews : ℕ → ℕ → Order → Bool
-renews price volume o = cond (o.price == price) (nat_lt o.volume volume) true
+abbrev pub renews : Alteration → Order → Bool
+renews a o = cond (o.price == a.price) (nat_lt o.volume a.volume) true
 
 -- with a new arrival, the tally first rises
-abbrev pub renew : ℕ → ℕ → ℕ → Order → Ledger → Ledger
-renew n price volume o L = set n (rewritten price volume (suc L.tally) o) (at_tally (suc L.tally) L)
+abbrev pub renew : Alteration → Order → Ledger → Ledger
+renew a o L = set a.number (rewritten a.price a.volume (suc L.tally) o) (at_tally (suc L.tally) L)
 
-abbrev pub keep : ℕ → ℕ → ℕ → Order → Ledger → Ledger
-keep n price volume o L = set n (rewritten price volume o.arrival o) L
+abbrev pub keep : Alteration → Order → Ledger → Ledger
+keep a o L = set a.number (rewritten a.price a.volume o.arrival o) L
 
 -- without an account nothing changes
-abbrev pub alter_account : ℕ → ℕ → ℕ → Option Order → Ledger → Ledger
-alter_account n price volume None L = L
-alter_account n price volume (Some o) L =
-    cond (renews price volume o) (renew n price volume o L) (keep n price volume o L)
+abbrev pub alter_account : Alteration → Option Order → Ledger → Ledger
+alter_account a None L = L
+alter_account a (Some o) L = cond (renews a o) (renew a o L) (keep a o L)
 
 abbrev pub feed : Terms → Feed → Ledger → Ledger
-feed t (entry member d limit volume) L =
-    set (suc L.tally) (opening t (suc L.tally) member d limit volume) (at_tally (suc L.tally) L)
-feed t (alteration n price volume) L = alter_account n price volume (L.accounts n) L
+feed t (entry e) L = set (suc L.tally) (opening t (suc L.tally) e) (at_tally (suc L.tally) L)
+feed t (alteration a) L = alter_account a (L.accounts a.number) L
 feed t (withdrawal n v) L = fall n v L
 feed t progress L = at_stage (following L.stage) L
 

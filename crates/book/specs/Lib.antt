@@ -1,9 +1,10 @@
 pub mod Exactly
-pub mod Rules
+pub mod Stages
 pub mod Counts
 pub mod Ledger
-pub mod Rows
 pub mod Day
+pub mod Rows
+pub mod Calls
 pub mod Law
 pub mod Model
 pub mod Refusals

@@ -1,7 +1,7 @@
 -- What the next reference price needs, kept beside the day: no part of the law reads it.
 use Rattle.std.specs.Prelude.{ℕ, Bool, false, ◌&&◌, List, [], ◌∷◌, Some, None, Option, ◌==◌}
 use Rattle.book.specs.declared.stage.Stage.{Stage}
-use Rattle.book.specs.declared.stage.Stage.TheVariants.{PreOpen, Open, PreClose, Closed}
+use Rattle.book.specs.declared.stage.Stage.TheVariants.{PreOpen, Open, Closed}
 use Rattle.rules.specs.Book.{Book}
 use Rattle.rules.specs.Reference.{next_reference_under}
 use Rattle.rules.specs.declared.order.Order.{Order}
@@ -9,11 +9,12 @@ use Rattle.rules.specs.declared.terms.Terms.{Terms}
 use Rattle.book.specs.declared.slip.Slip.{Slip}
 use Rattle.book.specs.declared.slip.Slip.TheVariants.{Trade, Lapse}
 use Rattle.book.specs.declared.call.Call.{Call}
-use Rattle.book.specs.declared.call.Call.TheVariants.{Enter, Alter, Withdraw, Advance}
+use Rattle.book.specs.declared.call.Call.TheVariants.{Advance}
 use Rattle.rules.specs.declared.reference.DayRecord.{DayRecord}
 use Rattle.tables.specs.Meaning.{Capacity}
 use Rattle.book.specs.Model.{moved}
-use Rattle.book.specs.Day.{Day, new, Outcome, refused_by, done}
+use Rattle.book.specs.Calls.{Outcome, refused_by, done}
+use Rattle.book.specs.Day.{Day, new}
 
 abbrev pub unmarked : DayRecord
 unmarked = record { last_trade = None; buy_at_high = false; sell_at_low = false }
@@ -33,15 +34,9 @@ first_at p (o ∷ os) = o.price == p
 -- advance out of Open does not look
 abbrev pub mark_on : Stage → Call → Bool → Bool → Bool
 mark_on PreOpen Advance old now' = now'
-mark_on Open (Enter member d limit volume) old now' = old && now'
-mark_on Open (Alter member n price volume) old now' = old && now'
-mark_on Open (Withdraw member n) old now' = old && now'
 mark_on Open Advance old now' = old
-mark_on PreOpen (Enter member d limit volume) old now' = old
-mark_on PreOpen (Alter member n price volume) old now' = old
-mark_on PreOpen (Withdraw member n) old now' = old
-mark_on PreClose c old now' = old
-mark_on Closed c old now' = old
+mark_on Open c old now' = old && now'
+mark_on _ c old now' = old
 
 -- the marks after an accepted call that was made in this stage, wrote these slips and left this book
 abbrev pub marks_after : Terms → Stage → Call → DayRecord → List Slip → Book → DayRecord
@@ -59,10 +54,8 @@ marked t stage c m (done day a slips) = marks_after t stage c m slips day.table.
 
 -- a session that was ended before Closed leaves nothing
 abbrev pub left_by : Stage → DayRecord → Option DayRecord
-left_by PreOpen m = None
-left_by Open m = None
-left_by PreClose m = None
 left_by Closed m = Some m
+left_by _ m = None
 
 -- a session: its day, and the marks of it
 pub record Session : Type 0 where

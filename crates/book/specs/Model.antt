@@ -3,7 +3,8 @@ use Rattle.std.specs.Prelude.{ℕ, List, [], ◌∷◌}
 use Rattle.rules.specs.declared.terms.Terms.{Terms}
 use Rattle.book.specs.declared.call.Call.{Call}
 use Rattle.tables.specs.Meaning.{Capacity}
-use Rattle.book.specs.Day.{Day, new, Outcome, refused_by, done, step}
+use Rattle.book.specs.Calls.{Outcome, refused_by, done, step}
+use Rattle.book.specs.Day.{Day, new}
 use Rattle.book.specs.Law.{Try, Verdict, refused, accepted, Came, Engine}
 
 -- the day after a call

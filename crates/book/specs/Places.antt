@@ -1,9 +1,11 @@
 -- A table that does not take the next order has no place left for it.
-use Rattle.std.specs.Prelude.{◌≡◌, ◌≤◌, ℕ, suc, List, length, Option}
+use Rattle.std.specs.Prelude.{◌≡◌, ◌≤◌, suc, List, length}
 use Rattle.rules.specs.declared.order.Direction.{Direction}
 use Rattle.rules.specs.declared.terms.Terms.{Terms}
 use Rattle.tables.specs.Meaning.{Capacity, listed, takes}
-use Rattle.book.specs.Day.{Day, entering, step}
+use Rattle.book.specs.declared.call.NewOrder.{NewOrder}
+use Rattle.book.specs.Calls.{entering, step}
+use Rattle.book.specs.Day.{Day}
 use Rattle.book.specs.Rows.{has_place}
 use Rattle.book.specs.Law.{Try}
 use Rattle.book.specs.Model.{day_after}
@@ -14,8 +16,7 @@ pub record ByPlaces (t : Terms) (cap : Capacity) (day : Day) : Type 0 where
   pub capacity : day.table.capacity ≡ cap
   pub fits : (d : Direction) → length (listed d day.table) ≤ cap.places
   pub taken :
-      (member : ℕ) (d : Direction) (limit : Option ℕ) (volume : ℕ) →
-      takes day.table (entering t (suc day.tally) member d limit volume) ≡ has_place d day.table
+      (e : NewOrder) → takes day.table (entering t (suc day.tally) e) ≡ has_place e.direction day.table
 
 abbrev pub TakesByPlaces : Type 0
 TakesByPlaces = (t : Terms) (cap : Capacity) (past : List Try) → ByPlaces t cap (day_after step t cap past)

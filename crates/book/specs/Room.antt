@@ -2,7 +2,8 @@
 use Rattle.std.specs.Prelude.{◌≡◌, ℕ, ◌≤◌, length}
 use Rattle.rules.specs.declared.terms.Terms.{Terms}
 use Rattle.book.specs.declared.call.Call.{Call}
-use Rattle.book.specs.Day.{Day, Outcome, refused_by, done, step}
+use Rattle.book.specs.Calls.{Outcome, refused_by, done, step}
+use Rattle.book.specs.Day.{Day}
 
 abbrev pub FitsRun : ℕ → Outcome → Type 0
 FitsRun room (refused_by n) = Unit {0}

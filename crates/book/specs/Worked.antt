@@ -1,6 +1,7 @@
 -- Days worked by the rules, call after call.
-use Rattle.std.specs.Prelude.{◌≡◌, ℕ, List, [], ◌∷◌, Some, None, refl}
+use Rattle.std.specs.Prelude.{◌≡◌, ℕ, List, [], ◌∷◌, Some, None, Option, refl}
 use Rattle.std.proofs.Common.{lit≤}
+use Rattle.rules.specs.declared.order.Direction.{Direction}
 use Rattle.rules.specs.declared.order.Direction.TheVariants.{Buy, Sell}
 use Rattle.rules.specs.declared.terms.Terms.{Terms}
 use Rattle.tables.specs.Meaning.{Capacity}
@@ -8,8 +9,10 @@ use Rattle.book.specs.declared.answer.Answer.{Answer}
 use Rattle.book.specs.declared.answer.Told.{Told}
 use Rattle.book.specs.declared.answer.Told.TheVariants.{Entered, Advanced}
 use Rattle.book.specs.declared.call.Call.{Call}
-use Rattle.book.specs.declared.call.Call.TheVariants.{Enter, Withdraw, Advance}
+use Rattle.book.specs.declared.call.Call.TheVariants.{Enter, Alter, Withdraw, Advance}
+use Rattle.book.specs.declared.call.NewOrder.{NewOrder}
 use Rattle.book.specs.declared.slip.Slip.TheVariants.{Trade, Lapse}
+use Rattle.book.specs.declared.stage.Stage.{Stage}
 use Rattle.book.specs.declared.stage.Stage.TheVariants.{Open, PreClose, Closed}
 use Rattle.book.specs.Law.{Try, Verdict, refused, accepted}
 use Rattle.book.specs.Leads.{outcome}
@@ -40,14 +43,27 @@ places = record { places = 128 }
 abbrev pub with_run : Call → Try
 with_run c = record { call = c; room = 512 }
 
+-- calls from their values
+abbrev pub new_order : ℕ → Direction → Option ℕ → ℕ → NewOrder
+new_order member d limit volume = record { member = member; direction = d; limit = limit; volume = volume }
+
+abbrev pub enter_of : ℕ → Direction → Option ℕ → ℕ → Call
+enter_of member d limit volume = Enter (new_order member d limit volume)
+
+abbrev pub alter_of : ℕ → ℕ → ℕ → ℕ → Call
+alter_of member n price volume = Alter (record { member = member; number = n; price = price; volume = volume })
+
+abbrev pub withdraw_of : ℕ → ℕ → Call
+withdraw_of member n = Withdraw (record { member = member; number = n })
+
 -- the day's calls, the first first
 abbrev pub calls : List Call
 calls =
-    Enter 1 Buy (Some 1050) 40
-    ∷ Enter 2 Sell (Some 990) 30
-    ∷ Enter 3 Buy (Some 1400) 10
+    enter_of 1 Buy (Some 1050) 40
+    ∷ enter_of 2 Sell (Some 990) 30
+    ∷ enter_of 3 Buy (Some 1400) 10
     ∷ Advance
-    ∷ Enter 4 Sell None 20
+    ∷ enter_of 4 Sell None 20
     ∷ Advance
     ∷ Advance
     ∷ []
@@ -62,19 +78,24 @@ abbrev pub all_worked : Terms → Session → List Call → Session
 all_worked t s [] = s
 all_worked t s (c ∷ cs) = all_worked t (worked t c s (outcome t s.day (with_run c))) cs
 
-abbrev and_slips : Told → ℕ → Answer
-and_slips told n = record { told = told; slips = n }
+-- answers from their values, the count of slips last
+abbrev entered_as : ℕ → ℕ → ℕ → ℕ → Answer Told
+entered_as n traded held slips = record { told = Entered (record { number = n; traded = traded; held = held }); slips = slips }
+
+abbrev advanced_to : Stage → Option ℕ → ℕ → ℕ → Answer Told
+advanced_to stage price traded slips =
+    record { told = Advanced (record { stage = stage; price = price; traded = traded }); slips = slips }
 
 -- what should come of the day's calls
 abbrev pub expected : List Verdict
 expected =
-    accepted (and_slips (Entered 1 0 40) 0) []
-    ∷ accepted (and_slips (Entered 2 0 30) 0) []
+    accepted (entered_as 1 0 40 0) []
+    ∷ accepted (entered_as 2 0 30 0) []
     ∷ refused 6
-    ∷ accepted (and_slips (Advanced Open (Some 1000) 30) 1) (Trade 1 2 1000 30 ∷ [])
-    ∷ accepted (and_slips (Entered 3 10 0) 2) (Trade 1 3 1050 10 ∷ Lapse 3 10 ∷ [])
-    ∷ accepted (and_slips (Advanced PreClose None 0) 0) []
-    ∷ accepted (and_slips (Advanced Closed None 0) 0) []
+    ∷ accepted (advanced_to Open (Some 1000) 30 1) (Trade 1 2 1000 30 ∷ [])
+    ∷ accepted (entered_as 3 10 0 2) (Trade 1 3 1050 10 ∷ Lapse 3 10 ∷ [])
+    ∷ accepted (advanced_to PreClose None 0 0) []
+    ∷ accepted (advanced_to Closed None 0 0) []
     ∷ []
 
 -- the next reference price that a day of these calls leaves
@@ -90,8 +111,8 @@ advances = Advance ∷ Advance ∷ Advance ∷ []
 pub record WorkedDay : Type 0 where
   pub answers : results terms_of_the_day (begun places) calls ≡ expected
   pub reference : left_after calls ≡ 1050
-  pub buy_at_high : left_after (Enter 1 Buy (Some 1300) 40 ∷ advances) ≡ 1300
-  pub sell_at_low : left_after (Enter 1 Sell (Some 700) 40 ∷ advances) ≡ 700
-  pub buy_below : left_after (Enter 1 Buy (Some 1290) 40 ∷ advances) ≡ 1000
-  pub buy_late : left_after (Advance ∷ Enter 1 Buy (Some 1300) 40 ∷ Advance ∷ Advance ∷ []) ≡ 1000
-  pub buy_gone : left_after (Enter 1 Buy (Some 1300) 40 ∷ Advance ∷ Withdraw 1 1 ∷ Advance ∷ Advance ∷ []) ≡ 1000
+  pub buy_at_high : left_after (enter_of 1 Buy (Some 1300) 40 ∷ advances) ≡ 1300
+  pub sell_at_low : left_after (enter_of 1 Sell (Some 700) 40 ∷ advances) ≡ 700
+  pub buy_below : left_after (enter_of 1 Buy (Some 1290) 40 ∷ advances) ≡ 1000
+  pub buy_late : left_after (Advance ∷ enter_of 1 Buy (Some 1300) 40 ∷ Advance ∷ Advance ∷ []) ≡ 1000
+  pub buy_gone : left_after (enter_of 1 Buy (Some 1300) 40 ∷ Advance ∷ withdraw_of 1 1 ∷ Advance ∷ Advance ∷ []) ≡ 1000

@@ -1,31 +1,47 @@
 // What an accepted call answers. A fixing trades what any number of orders hold, so its volume is wide.
 use crate::stage::Stage;
 
-// What a caller is told of its own call.
 #[derive(Clone, Copy, Debug, PartialEq, Eq)]
-pub enum Told {
-    Entered {
-        number: u32,
-        traded: u128,
-        held: u32,
-    },
-    Altered {
-        traded: u128,
-        held: u32,
-    },
-    Withdrawn {
-        volume: u32,
-    },
-    Advanced {
-        stage: Stage,
-        price: Option<u32>,
-        traded: u128,
-    },
+pub struct Entered {
+    // the order's number from now on
+    pub number: u32,
+    pub traded: u128,
+    pub held: u32,
 }
 
 #[derive(Clone, Copy, Debug, PartialEq, Eq)]
-pub struct Answer {
-    pub told: Told,
-    // the slips that the call wrote, from the first place of its run on
+pub struct Altered {
+    pub traded: u128,
+    pub held: u32,
+}
+
+#[derive(Clone, Copy, Debug, PartialEq, Eq)]
+pub struct Withdrawn {
+    pub volume: u32,
+}
+
+#[derive(Clone, Copy, Debug, PartialEq, Eq)]
+pub struct Advanced {
+    // the stage that begins
+    pub stage: Stage,
+    // the fixing price, if the call struck one
+    pub price: Option<u32>,
+    pub traded: u128,
+}
+
+// What a caller is told of any call.
+#[derive(Clone, Copy, Debug, PartialEq, Eq)]
+pub enum Told {
+    Entered(Entered),
+    Altered(Altered),
+    Withdrawn(Withdrawn),
+    Advanced(Advanced),
+}
+
+// What a call is answered: what its caller is told, and how many slips it wrote.
+#[derive(Clone, Copy, Debug, PartialEq, Eq)]
+pub struct Answer<A> {
+    pub told: A,
+    // from the first place of the call's run on
     pub slips: usize,
 }

@@ -1,23 +1,35 @@
 // What a member or the clock asks of the book.
 use rules::order::Direction;
 
+// An order that is to enter: a limit order at its price, or a market order, which names none.
+#[derive(Clone, Copy, Debug, PartialEq, Eq)]
+pub struct NewOrder {
+    pub member: u32,
+    pub direction: Direction,
+    pub limit: Option<u32>,
+    pub volume: u32,
+}
+
+// What an order of the member is to be: its price, and the volume that is to be left of it.
+#[derive(Clone, Copy, Debug, PartialEq, Eq)]
+pub struct Alteration {
+    pub member: u32,
+    pub number: u32,
+    pub price: u32,
+    pub volume: u32,
+}
+
+// An order of the member that is to be taken out.
+#[derive(Clone, Copy, Debug, PartialEq, Eq)]
+pub struct Withdrawal {
+    pub member: u32,
+    pub number: u32,
+}
+
 #[derive(Clone, Copy, Debug, PartialEq, Eq)]
 pub enum Call {
-    Enter {
-        member: u32,
-        direction: Direction,
-        limit: Option<u32>,
-        volume: u32,
-    },
-    Alter {
-        member: u32,
-        number: u32,
-        price: u32,
-        volume: u32,
-    },
-    Withdraw {
-        member: u32,
-        number: u32,
-    },
+    Enter(NewOrder),
+    Alter(Alteration),
+    Withdraw(Withdrawal),
     Advance,
 }

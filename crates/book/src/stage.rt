@@ -1,7 +1,6 @@
 // The part of the day, its number, and the one after it.
 ghost use Rattle.std.specs.Prelude.{◌≡◌};
-ghost use Rattle.book.specs.Rows.{is_open, strikes};
-ghost use Rattle.book.specs.Rules.{next, stage_number};
+ghost use Rattle.book.specs.Stages.{is_open, next, stage_number, strikes};
 
 #[derive(Clone, Copy, Debug, PartialEq, Eq)]
 pub enum Stage {

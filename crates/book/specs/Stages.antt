@@ -1,0 +1,31 @@
+-- The stages of a day, as the rules of a session have them.
+use Rattle.std.specs.Prelude.{ℕ, Bool, true, false}
+use Rattle.book.specs.declared.stage.Stage.{Stage}
+use Rattle.book.specs.declared.stage.Stage.TheVariants.{PreOpen, Open, PreClose, Closed}
+
+abbrev pub next : Stage → Stage
+next PreOpen = Open
+next Open = PreClose
+next PreClose = Closed
+next Closed = Closed
+
+abbrev pub is_closed : Stage → Bool
+is_closed Closed = true
+is_closed _ = false
+
+abbrev pub is_open : Stage → Bool
+is_open Open = true
+is_open _ = false
+
+-- out of Pre-open and Pre-close there is a strike
+abbrev pub strikes : Stage → Bool
+strikes PreOpen = true
+strikes PreClose = true
+strikes _ = false
+
+-- the number that a stage is shown as
+abbrev pub stage_number : Stage → ℕ
+stage_number PreOpen = 1
+stage_number Open = 2
+stage_number PreClose = 3
+stage_number Closed = 4
