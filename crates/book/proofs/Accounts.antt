@@ -6,7 +6,7 @@ use Rattle.rules.specs.declared.order.Direction.TheVariants.{Buy, Sell}
 use Rattle.rules.specs.declared.order.Order.{Order}
 use Rattle.book.specs.Exactly.{Before}
 use Rattle.book.specs.Ledger.{Accounts, Ledger, Live, Uncrossed, put, lowered, lower, posted}
-use Rattle.book.specs.Calls.{less}
+use Rattle.book.specs.Calls.{with_first_less}
 use Rattle.book.proofs.Members.{Exactly, Member}
 use Rattle.rules.specs.Rank.{before}
 use Rattle.rules.specs.Side.{opposite}
@@ -137,7 +137,7 @@ pub down_own :
     (d : Direction) (v : ℕ) (L : Ledger) (o : Order) (xs : List Order) →
     Exactly d (Live d L) (o ∷ xs) →
     v ≤ o.volume →
-    Exactly d (Live d (down o.number v L)) (less v o xs)
+    Exactly d (Live d (down o.number v L)) (with_first_less v o xs)
 down_own d v L o xs ex h =
     let n : ℕ = o.number in
     let l : Live d L o = ex.sound o (inl refl) in

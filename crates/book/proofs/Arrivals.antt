@@ -10,7 +10,7 @@ use Rattle.tables.specs.Meaning.{Capacity}
 use Rattle.book.specs.Ledger.{
   Accounts,
   Ledger,
-  fresh,
+  new_ledger,
   Live,
   at_tally,
   posted,
@@ -36,7 +36,7 @@ use Rattle.book.specs.Ledger.{
 }
 use Rattle.book.specs.declared.call.Alteration.{Alteration}
 use Rattle.book.specs.declared.call.Call.{Call}
-use Rattle.book.specs.Law.{Try, Verdict, refused, accepted, Engine, fed, book_keeping, ledger}
+use Rattle.book.specs.Law.{Try, Verdict, refused, accepted, Engine, feed_of, book_keeping, ledger}
 use Rattle.book.proofs.Accounts.{put_same, put_other, live_same}
 
 pub record Arrivals (L : Ledger) : Type 0 where
@@ -47,7 +47,7 @@ pub record Arrivals (L : Ledger) : Type 0 where
 none_some : (o : Order) → ◌≡◌ {A = Option Order} None (Some o) → ⊥
 none_some o e = let z : ◌≡◌ {A = ℕ} 0 1 = cc in omega arith
 
-pub arrivals_fresh : Arrivals fresh
+pub arrivals_fresh : Arrivals new_ledger
 arrivals_fresh = record { below = λ n o e. absurd (none_some o e); alone = λ n m x y e. absurd (none_some x e) }
 
 -- accounts that keep their arrivals
@@ -147,7 +147,7 @@ arrivals_all (s ∷ ss) L a = arrivals_all ss (post s L) (arrivals_post s L a)
 
 arrivals_keeping : (t : Terms) (c : Call) (r : Verdict) (L : Ledger) → Arrivals L → Arrivals (book_keeping t c r L)
 arrivals_keeping t c (refused n) L a = a
-arrivals_keeping t c (accepted an slips) L a = arrivals_all slips (feed t (fed c an) L) (arrivals_feed t (fed c an) L a)
+arrivals_keeping t c (accepted an slips) L a = arrivals_all slips (feed t (feed_of c an) L) (arrivals_feed t (feed_of c an) L a)
 
 -- of every history of every engine
 pub arrivals : (e : Engine) (t : Terms) (cap : Capacity) (past : List Try) → Arrivals (ledger e t cap past)

@@ -20,9 +20,9 @@ use Rattle.book.specs.declared.answer.Told.{Told}
 use Rattle.book.specs.Counts.{with_count}
 use Rattle.book.specs.Ledger.{Ledger, Live, put, balance, opening, renews, renew, keep, rewritten, alter_account, feed, post_all, Along, traded}
 use Rattle.book.specs.Stages.{is_open}
-use Rattle.book.specs.Rows.{beyond_band, named}
-use Rattle.book.specs.Calls.{limit_price, entering, moves, alter_tally, altered, Outcome, refused_by, done, done_by, withdraw, let_enter, enter, alter, Reply, enter_reply, alter_reply, Arrived, let_in, arrived, settled, queued, entered, trades_again, placed, dealt, Swept, sweep}
-use Rattle.book.specs.Law.{Mode, continuous, mode, dealing, price_of, fed, due, SlipRight, InTurn, IsMarket, FixingRight, Entering, Settled, Shown, Upheld}
+use Rattle.book.specs.Rows.{beyond_band, order_named}
+use Rattle.book.specs.Calls.{limit_price, order_of, takes_new_arrival, alter_tally, altered_order, Outcome, refused_by, done, outcome_of, withdraw, enter_order, enter, alter, Reply, enter_reply, alter_reply, Execution, made_by_entry, entry_trading, after_sweep, entry_resting, entry_of, trades_again, with_left, with_rest, Sweep, sweep}
+use Rattle.book.specs.Law.{Mode, continuous, mode, entry_mode, price_of, feed_of, due_answer, SlipRight, InTurn, IsMarket, FixingRight, Entering, IsSettled, Shown, Upheld}
 use Rattle.book.specs.declared.answer.Told.TheVariants.{Withdrawn}
 use Rattle.book.proofs.Ranks.{InRank, without_in, insert_in, in_insert, none_numbered}
 use Rattle.book.proofs.Members.{listing, Exactly, Member}
@@ -80,7 +80,7 @@ module _ (t : Terms) (L : Ledger) (tab : Contents) (inv : Inv t L tab) where
       (w : Withdrawal) (o : Order) → w.number ≡ o.number →
       Live o.direction L o →
       held o.number tab.book ≡ true →
-      Good t L (Withdraw w) (done_by (withdraw (day_at L tab) o))
+      Good t L (Withdraw w) (outcome_of (withdraw (day_at L tab) o))
   withdraw_kept w o same l h =
       let d : Direction = o.direction in
       let n : ℕ = o.number in
@@ -89,7 +89,7 @@ module _ (t : Terms) (L : Ledger) (tab : Contents) (inv : Inv t L tab) where
       let old : List Order = side d tab.book in
       let own : List Order = without n old in
       let against : List Order = side (opposite d) tab.book in
-      subst (λ i. Good t L (Withdraw (record w { number = i })) (done_by (withdraw (day_at L tab) o))) (sym same)
+      subst (λ i. Good t L (Withdraw (record w { number = i })) (outcome_of (withdraw (day_at L tab) o))) (sym same)
       (subst
       (λ (T : Contents).
       Kept t L (Withdraw x) (with_count (Withdrawn (record { volume = o.volume })) []) M []
@@ -114,8 +114,8 @@ module _ (t : Terms) (L : Ledger) (tab : Contents) (inv : Inv t L tab) where
       }))
 
   pub withdraw_good :
-      (w : Withdrawal) (o : Order) → named w.number (day_at L tab) ≡ Some o →
-      Good t L (Withdraw w) (done_by (withdraw (day_at L tab) o))
+      (w : Withdrawal) (o : Order) → order_named w.number (day_at L tab) ≡ Some o →
+      Good t L (Withdraw w) (outcome_of (withdraw (day_at L tab) o))
   withdraw_good w o e =
       let f = found_live L tab.book inv.shown w.number o e in
       let there : held o.number tab.book ≡ true = ap (λ k. held k tab.book) f.1 ∙ ap is_some e in
@@ -129,7 +129,7 @@ GoodAt t L c M (refused_by n) = Unit {0}
 GoodAt t L c M (done day a slips) = Kept t L c a M slips day
 
 pub good_from :
-    (t : Terms) (L : Ledger) (c : Call) (M : Ledger) → ((a : Answer Told) → M ≡ feed t (fed c a) L) →
+    (t : Terms) (L : Ledger) (c : Call) (M : Ledger) → ((a : Answer Told) → M ≡ feed t (feed_of c a) L) →
     (out : Outcome) → GoodAt t L c M out → Good t L c out
 good_from t L c M e (refused_by n) h = tt
 good_from t L c M e (done day a slips) h = subst (λ N. Kept t L c a N slips day) (e a) h
@@ -153,35 +153,35 @@ uninsert d L o own s h ex =
 
 -- the order after its sweep, by whether it is a market order
 settled_as :
-    (e : Order) (T : Contents) (s : Swept) →
-    settled e T s ≡
+    (e : Order) (T : Contents) (s : Sweep) →
+    after_sweep e T s ≡
     cond e.market
     (record {
       slips = s.slips ++ cond (eqb s.left 0) [] (Lapse e.number s.left ∷ []);
       traded = e.volume - s.left;
       held = 0;
-      table = dealt e.direction s.rest T;
+      table = with_rest e.direction s.rest T;
     })
-    (record { slips = s.slips; traded = e.volume - s.left; held = s.left; table = placed e s.left (dealt e.direction s.rest T) })
+    (record { slips = s.slips; traded = e.volume - s.left; held = s.left; table = with_left e s.left (with_rest e.direction s.rest T) })
 settled_as e T s = go e.market (eqb s.left 0)
   where
     go :
         (m z : Bool) →
-        ◌≡◌ {A = Arrived}
+        ◌≡◌ {A = Execution}
         (record {
           slips = s.slips ++ cond (m && not z) (Lapse e.number s.left ∷ []) [];
           traded = e.volume - s.left;
           held = cond m 0 s.left;
-          table = cond m (dealt e.direction s.rest T) (placed e s.left (dealt e.direction s.rest T));
+          table = cond m (with_rest e.direction s.rest T) (with_left e s.left (with_rest e.direction s.rest T));
         })
         (cond m
         (record {
           slips = s.slips ++ cond z [] (Lapse e.number s.left ∷ []);
           traded = e.volume - s.left;
           held = 0;
-          table = dealt e.direction s.rest T;
+          table = with_rest e.direction s.rest T;
         })
-        (record { slips = s.slips; traded = e.volume - s.left; held = s.left; table = placed e s.left (dealt e.direction s.rest T) }))
+        (record { slips = s.slips; traded = e.volume - s.left; held = s.left; table = with_left e s.left (with_rest e.direction s.rest T) }))
     go true true = refl
     go true false = refl
     go false z =
@@ -190,13 +190,13 @@ settled_as e T s = go e.market (eqb s.left 0)
           slips = l;
           traded = e.volume - s.left;
           held = s.left;
-          table = placed e s.left (dealt e.direction s.rest T);
+          table = with_left e s.left (with_rest e.direction s.rest T);
         })
         (append-nil s.slips)
 
 -- what is right of an order with the number n that entered, whatever call brought it: M is the ledger with its account and
 -- before its slips
-pub record Fair (m : Mode) (M : Ledger) (n : ℕ) (x : Arrived) : Type 0 where
+pub record Fair (m : Mode) (M : Ledger) (n : ℕ) (x : Execution) : Type 0 where
   pub each : Along (SlipRight m) M x.slips
   pub traded : x.traded ≡ traded x.slips
   pub held : x.held ≡ balance ((post_all x.slips M).accounts n)
@@ -211,7 +211,7 @@ module _ (M : Ledger) (tab : Contents) (e : Order) (own opp : List Order) (last 
   abbrev d : Direction
   d = e.direction
 
-  module _ (s : Swept) (sw : SweptRight d e own M opp e.volume s) where
+  module _ (s : Sweep) (sw : SweptRight d e own M opp e.volume s) where
     -- what is left of the other side would not trade with the own side
     own_apart : (x y : Order) → Member x own → Member y s.rest → Apart d x y
     own_apart x y m n =
@@ -262,9 +262,9 @@ module _ (M : Ledger) (tab : Contents) (e : Order) (own opp : List Order) (last 
         one_side K d o (le.sound o (in_insert d o own o (inl refl))) y (sw.against.sound y m) q
 
     -- the table with what is left of the entering order
-    placed_is : placed e s.left (dealt e.direction s.rest (table_of tab e.direction own opp)) ≡ table_of tab e.direction (stand d e s.left own) s.rest
+    placed_is : with_left e s.left (with_rest e.direction s.rest (table_of tab e.direction own opp)) ≡ table_of tab e.direction (stand d e s.left own) s.rest
     placed_is =
-        ap (placed e s.left) (dealt_table tab e.direction own opp s.rest) ∙
+        ap (with_left e s.left) (dealt_table tab e.direction own opp s.rest) ∙
         ⊎_elim
         (λ z.
         cond-true (eqb s.left 0) (table_of tab e.direction own s.rest)
@@ -396,9 +396,9 @@ module _ (M : Ledger) (tab : Contents) (e : Order) (own opp : List Order) (last 
       M.accounts e.number ≡ Some e →
       Listed e.direction M (insert (before e.direction) e own) →
       Listed (opposite e.direction) M opp →
-      Fair continuous M e.number (arrived e (table_of tab e.direction own opp))
+      Fair continuous M e.number (entry_trading e (table_of tab e.direction own opp))
   arrived_fair some ac lo la =
-      let s : Swept = sweep d e.number e.price opp e.volume in
+      let s : Sweep = sweep d e.number e.price opp e.volume in
       let T : Contents = table_of tab d own opp in
       let start : Listed d M (stand d e e.volume own) =
       subst (Listed d M) (sym (cond-false (eqb e.volume 0) own (insert (before d) e own) (ne_eqb e.volume 0 (λ k. omega arith)))) lo
@@ -406,7 +406,7 @@ module _ (M : Ledger) (tab : Contents) (e : Order) (own opp : List Order) (last 
       let sw : SweptRight d e own M opp e.volume s =
       sweep_right d e own opp e.volume M start la ac last clear
       in
-      subst (λ xs. Fair continuous M e.number (settled e T (sweep d e.number e.price xs e.volume))) (sym (side_against d own opp))
+      subst (λ xs. Fair continuous M e.number (after_sweep e T (sweep d e.number e.price xs e.volume))) (sym (side_against d own opp))
       (subst (Fair continuous M e.number) (sym (settled_as e T s))
       (cond_both _ _ _ (Fair continuous M e.number)
       (λ mk.
@@ -425,13 +425,13 @@ queued_fair :
     M.accounts e.number ≡ Some e →
     Listed e.direction M (insert (before e.direction) e own) →
     Listed (opposite e.direction) M opp →
-    (Settled M.stage → (x y : Order) → Member x (insert (before e.direction) e own) → Member y opp → Apart e.direction x y) →
-    (Settled M.stage → Limit (insert (before e.direction) e own)) →
-    (Settled M.stage → Limit opp) →
+    (IsSettled M.stage → (x y : Order) → Member x (insert (before e.direction) e own) → Member y opp → Apart e.direction x y) →
+    (IsSettled M.stage → Limit (insert (before e.direction) e own)) →
+    (IsSettled M.stage → Limit opp) →
     takes (table_of tab e.direction own opp) e ≡ true →
     length own < tab.capacity.places →
     length opp ≤ tab.capacity.places →
-    Fair m M e.number (queued e (table_of tab e.direction own opp))
+    Fair m M e.number (entry_resting e (table_of tab e.direction own opp))
 queued_fair m M tab e own opp ac lo la gap f g taken room opp-fits =
     let d : Direction = e.direction in
     subst (λ (X : Contents). Fair m M e.number (record { slips = []; traded = 0; held = e.volume; table = X }))
@@ -450,13 +450,13 @@ queued_fair m M tab e own opp ac lo la gap f g taken room opp-fits =
 abbrev pub Due : Ledger → Call → Ledger → ℕ → Reply → Type 0
 Due L c M n reply =
     (m : Mode) (slips : List Slip) (sum held : ℕ) → sum ≡ traded slips → held ≡ balance ((post_all slips M).accounts n) →
-    with_count (reply sum held) slips ≡ due c m L slips (post_all slips M)
+    with_count (reply sum held) slips ≡ due_answer c m L slips (post_all slips M)
 
 -- of the call c, after which M is the ledger
 module _ (t : Terms) (L : Ledger) (c : Call) (M : Ledger) (n : ℕ) (reply : Reply) (owed : Due L c M n reply)
     (same : M.stage ≡ L.stage) (opened : AllOpened t M.tally M.accounts) where
   entry_kept :
-      (m : Mode) (x : Arrived) → mode L.stage c (price_of (with_count (reply x.traded x.held) x.slips)) ≡ m →
+      (m : Mode) (x : Execution) → mode L.stage c (price_of (with_count (reply x.traded x.held) x.slips)) ≡ m →
       FixingRight t L m x.slips → Fair m M n x →
       Kept t L c (with_count (reply x.traded x.held) x.slips) M x.slips
       (record { stage = L.stage; tally = M.tally; table = x.table })
@@ -478,7 +478,7 @@ module _ (t : Terms) (L : Ledger) (c : Call) (M : Ledger) (n : ℕ) (reply : Rep
       }
 
 -- dealing is no fixing
-pub dealing_none : (t : Terms) (L : Ledger) (s : Stage) (slips : List Slip) → FixingRight t L (dealing s) slips
+pub dealing_none : (t : Terms) (L : Ledger) (s : Stage) (slips : List Slip) → FixingRight t L (entry_mode s) slips
 dealing_none t L PreOpen slips = tt
 dealing_none t L Open slips = tt
 dealing_none t L PreClose slips = tt
@@ -486,12 +486,12 @@ dealing_none t L Closed slips = tt
 
 -- The ledger's words and the model's -----------------------------------------------------------------------------------------------
 
-pub opening_is : (t : Terms) (n : ℕ) (e : NewOrder) → entering t n e ≡ opening t n e
+pub opening_is : (t : Terms) (n : ℕ) (e : NewOrder) → order_of t n e ≡ opening t n e
 opening_is t n e = go e.direction e.limit
   where
     go :
         (d : Direction) (limit : Option ℕ) →
-        entering t n (record e { direction = d; limit = limit }) ≡ opening t n (record e { direction = d; limit = limit })
+        order_of t n (record e { direction = d; limit = limit }) ≡ opening t n (record e { direction = d; limit = limit })
     go Buy None = refl
     go Sell None = refl
     go Buy (Some p) = refl
@@ -505,7 +505,7 @@ renews_is : (a b : Bool) → (not a || b) ≡ cond a b true
 renews_is true b = refl
 renews_is false b = refl
 
-pub moves_is : (a : Alteration) (o : Order) → moves a o ≡ renews a o
+pub moves_is : (a : Alteration) (o : Order) → takes_new_arrival a o ≡ renews a o
 moves_is a o =
     ap (λ b. not b || ltb o.volume a.volume) (eqb_swap a.price o.price) ∙
     renews_is (eqb o.price a.price) (ltb o.volume a.volume)
@@ -516,11 +516,11 @@ alter_ledger a o L =
     record {
       stage = L.stage;
       tally = alter_tally L.tally a o;
-      accounts = put a.number (Some (altered L.tally a o)) L.accounts;
+      accounts = put a.number (Some (altered_order L.tally a o)) L.accounts;
     }
 
 alter_on :
-    (a : Alteration) (o : Order) (L : Ledger) (b : Bool) → moves a o ≡ b →
+    (a : Alteration) (o : Order) (L : Ledger) (b : Bool) → takes_new_arrival a o ≡ b →
     alter_ledger a o L ≡ cond b (renew a o L) (keep a o L)
 alter_on a o L b e =
     ap
@@ -587,11 +587,11 @@ module _ (t : Terms) (L : Ledger) (tab : Contents) (inv : Inv t L tab) where
   none_next d x l q = let b : x.number ≤ L.tally = (inv.opened x.number x l.account).below in omega arith
 
   pub enter_good :
-      (e : NewOrder) (room : ℕ) → Enters t (day_at L tab) e room → Good t L (Enter e) (done_by (enter t (day_at L tab) e))
+      (e : NewOrder) (room : ℕ) → Enters t (day_at L tab) e room → Good t L (Enter e) (outcome_of (enter t (day_at L tab) e))
   enter_good new room k =
       let c : Call = Enter new in
       let n : ℕ = suc L.tally in
-      let e : Order = entering t n new in
+      let e : Order = order_of t n new in
       let d : Direction = e.direction in
       let M : Ledger = record { stage = L.stage; tally = n; accounts = put n (Some e) L.accounts } in
       let own : List Order = side d tab.book in
@@ -621,21 +621,21 @@ module _ (t : Terms) (L : Ledger) (tab : Contents) (inv : Inv t L tab) where
       let kept = entry_kept t L c M n (enter_reply n) owed refl op in
       good_from t L c M
       (λ a i. record { stage = L.stage; tally = n; accounts = put n (Some (opening_is t n new i)) L.accounts })
-      (done_by (enter t (day_at L tab) new))
-      (subst (λ (X : Contents). GoodAt t L c M (done_by (let_enter (day_at L X) e))) whole
+      (outcome_of (enter t (day_at L tab) new))
+      (subst (λ (X : Contents). GoodAt t L c M (outcome_of (enter_order (day_at L X) e))) whole
       (cond_both _ _ _
-      (λ (a : Arrived). GoodAt t L c M (done_by (let_in (day_at L T) n (enter_reply n) a)))
+      (λ (a : Execution). GoodAt t L c M (outcome_of (made_by_entry (day_at L T) n (enter_reply n) a)))
       (λ is-o.
       let trading : L.stage ≡ Open = is_open_true L.stage is-o in
-      let calm : Settled L.stage = settled_open L.stage trading in
-      kept continuous (arrived e T) (ap dealing trading) tt
+      let calm : IsSettled L.stage = settled_open L.stage trading in
+      kept continuous (entry_trading e T) (ap entry_mode trading) tt
       (arrived_fair M tab e own opp refl (listing (inv.shown.sides d)).sorted
       (λ x m. none_next d x ((listing (inv.shown.sides d)).sound x m))
       (apart_of L tab.book inv.shown calm d) (limit_of L tab.book inv.shown calm d)
       (limit_of L tab.book inv.shown calm (opposite d)) place (inv.fits (opposite d)) some ac lo la))
       (λ not-o.
-      kept (dealing L.stage) (queued e T) refl (dealing_none t L L.stage [])
-      (queued_fair (dealing L.stage) M tab e own opp ac lo la
+      kept (entry_mode L.stage) (entry_resting e T) refl (dealing_none t L L.stage [])
+      (queued_fair (entry_mode L.stage) M tab e own opp ac lo la
       (λ h. absurd (unsettled L.stage not-o k.closed h)) (λ h. absurd (unsettled L.stage not-o k.closed h))
       (λ h. absurd (unsettled L.stage not-o k.closed h)) taken place (inv.fits (opposite d))))))
 
@@ -647,14 +647,14 @@ module _ (t : Terms) (L : Ledger) (tab : Contents) (inv : Inv t L tab) where
       Live o.direction L o →
       held o.number tab.book ≡ true →
       Alters t (day_at L tab) a room o →
-      Good t L (Alter a) (done_by (alter (day_at L tab) a o))
+      Good t L (Alter a) (outcome_of (alter (day_at L tab) a o))
   alter_kept a o room named-so l there rows =
       let n : ℕ = o.number in
       let x : Alteration = record a { number = n } in
       let c : Call = Alter x in
       let d : Direction = o.direction in
       let tally : ℕ = alter_tally L.tally a o in
-      let e : Order = altered L.tally a o in
+      let e : Order = altered_order L.tally a o in
       let M : Ledger = alter_ledger x o L in
       let old : List Order = side d tab.book in
       let own : List Order = without n old in
@@ -666,7 +666,7 @@ module _ (t : Terms) (L : Ledger) (tab : Contents) (inv : Inv t L tab) where
       let lo : Listed d M (insert (before d) e own) = put_own M d e off le (one_side L d o l) in
       let la : Listed (opposite d) M opp = put_against M d e off le (one_side L d o l) in
       let more : L.tally ≤ tally =
-      cond_both (moves a o) (suc L.tally) L.tally (λ k. L.tally ≤ k) (λ _. omega arith) (λ _. omega arith)
+      cond_both (takes_new_arrival a o) (suc L.tally) L.tally (λ k. L.tally ≤ k) (λ _. omega arith) (λ _. omega arith)
       in
       let op : AllOpened t tally M.accounts =
       opened_put t tally L.accounts (opened_more t L.tally L.accounts inv.opened tally more) n (Some e)
@@ -681,41 +681,41 @@ module _ (t : Terms) (L : Ledger) (tab : Contents) (inv : Inv t L tab) where
       in
       let fresh : NoneHas n own = λ y m. (without_in n old y m).1 in
       let taken : takes T e ≡ true = takes_sided tab e own opp place fresh (not_against t L tab inv d o l) in
-      let clear : Settled L.stage → (y z : Order) → Member y own → Member z opp → Apart d y z =
+      let clear : IsSettled L.stage → (y z : Order) → Member y own → Member z opp → Apart d y z =
       λ k y z m i. apart_of L tab.book inv.shown k d y z (without_in n old y m).0 i
       in
-      let limits : Settled L.stage → Limit own =
+      let limits : IsSettled L.stage → Limit own =
       λ k y m. limit_of L tab.book inv.shown k d y (without_in n old y m).0
       in
       let ac : M.accounts n ≡ Some e = put_same n (Some e) L.accounts in
       let owed : Due L c M n alter_reply = λ m slips sum kept p q i. with_count (alter_reply (p i) (q i)) slips in
       let kept = entry_kept t L c M n alter_reply owed refl op in
-      subst (λ i. Good t L (Alter (record a { number = i })) (done_by (alter (day_at L tab) a o))) (sym named-so)
+      subst (λ i. Good t L (Alter (record a { number = i })) (outcome_of (alter (day_at L tab) a o))) (sym named-so)
       (good_from t L c M (λ _. alter_is x o L ∙ sym (ap (λ y. alter_account x y L) l.account))
-      (done_by (alter (day_at L tab) a o))
+      (outcome_of (alter (day_at L tab) a o))
       (subst
       (λ (X : Contents).
       GoodAt t L c M
-      (done_by (let_in (day_at L tab) tally alter_reply (entered (trades_again L.stage a o) e X))))
+      (outcome_of (made_by_entry (day_at L tab) tally alter_reply (entry_of (trades_again L.stage a o) e X))))
       (sym (removed_is t L tab inv o l there))
       (cond_both _ _ _
-      (λ (y : Arrived). GoodAt t L c M (done_by (let_in (day_at L tab) tally alter_reply y)))
+      (λ (y : Execution). GoodAt t L c M (outcome_of (made_by_entry (day_at L tab) tally alter_reply y)))
       (λ h.
       let both = and_parts (is_open L.stage) (not (eqb a.price o.price)) h in
       let trading : L.stage ≡ Open = is_open_true L.stage both.0 in
-      let calm : Settled L.stage = settled_open L.stage trading in
-      let moved : moves a o ≡ true = ap (λ b. b || ltb o.volume a.volume) both.1 in
+      let calm : IsSettled L.stage = settled_open L.stage trading in
+      let moved : takes_new_arrival a o ≡ true = ap (λ b. b || ltb o.volume a.volume) both.1 in
       let last : Entering M e =
       ap (λ b. cond b (suc L.tally) o.arrival) moved ∙ sym (ap (λ b. cond b (suc L.tally) L.tally) moved)
       in
-      kept continuous (arrived e T) (ap dealing trading) tt
+      kept continuous (entry_trading e T) (ap entry_mode trading) tt
       (arrived_fair M tab e own opp last
       (besides_without n d L old (listing (inv.shown.sides d))).sorted fresh
       (clear calm) (limits calm) (limit_of L tab.book inv.shown calm (opposite d)) place (inv.fits (opposite d))
       some ac lo la))
       (λ h.
-      kept (dealing L.stage) (queued e T) refl (dealing_none t L L.stage [])
-      (queued_fair (dealing L.stage) M tab e own opp ac lo la
+      kept (entry_mode L.stage) (entry_resting e T) refl (dealing_none t L L.stage [])
+      (queued_fair (entry_mode L.stage) M tab e own opp ac lo la
       (λ k y z m i.
       ⊎_elim
       (λ q.
@@ -732,7 +732,7 @@ module _ (t : Terms) (L : Ledger) (tab : Contents) (inv : Inv t L tab) where
 
   pub alter_good :
       (a : Alteration) (o : Order) (room : ℕ) → Alters t (day_at L tab) a room o →
-      Good t L (Alter a) (done_by (alter (day_at L tab) a o))
+      Good t L (Alter a) (outcome_of (alter (day_at L tab) a o))
   alter_good a o room k =
       let f = found_live L tab.book inv.shown a.number o k.found in
       let there : held o.number tab.book ≡ true = ap (λ i. held i tab.book) f.1 ∙ ap is_some k.found in

@@ -10,7 +10,7 @@ use Rattle.rules.specs.declared.terms.Terms.{Terms}
 use Rattle.book.proofs.Ranks.{InRank}
 use Rattle.book.specs.Exactly.{Before}
 use Rattle.book.specs.Ledger.{traded}
-use Rattle.book.specs.Calls.{limits, paired, fixing_price, less, Paired, pair, match_at}
+use Rattle.book.specs.Calls.{limit_orders, trade_then, fixing_price, with_first_less, Pairing, pair, match_at}
 use Rattle.book.proofs.Members.{Member}
 use Rattle.rules.specs.Side.{willing}
 use Rattle.tables.specs.Listing.{with_volume}
@@ -46,19 +46,19 @@ willing_before Buy o y q b h = let k = no_worse Buy o y b in grind (arith, nat_t
 willing_before Sell o y q b h = let k = no_worse Sell o y b in grind (arith, nat_tests)
 
 module _ (d : Direction) (o : Order) (os : List Order) (v : ℕ) where
-  less_in : (z : Order) → Member z (less v o os) → (y : Order) × Member y (o ∷ os) × (y.price ≡ z.price)
+  less_in : (z : Order) → Member z (with_first_less v o os) → (y : Order) × Member y (o ∷ os) × (y.price ≡ z.price)
   less_in z m =
       cond_both (leb o.volume v) os (with_volume (o.volume - v) o ∷ os)
       (λ l. Member z l → (y : Order) × Member y (o ∷ os) × (y.price ≡ z.price))
       (λ _ k. (z, inr k, refl))
       (λ _ k. ⊎_elim (λ e. (o, inl refl, sym (ap (λ (x : Order). x.price) e))) (λ j. (z, inr j, refl)) k) m
 
-  pub less_sorted : InRank d (o ∷ os) → InRank d (less v o os)
+  pub less_sorted : InRank d (o ∷ os) → InRank d (with_first_less v o os)
   less_sorted s =
       cond_both (leb o.volume v) os (with_volume (o.volume - v) o ∷ os) (InRank d) (λ _. rest_in d o os s)
       (λ _. in_rank_from d (with_volume (o.volume - v) o) os (ahead_of d o os s) (rest_in d o os s))
 
-  pub less_positive : Positive (o ∷ os) → Positive (less v o os)
+  pub less_positive : Positive (o ∷ os) → Positive (with_first_less v o os)
   less_positive h =
       cond_both (leb o.volume v) os (with_volume (o.volume - v) o ∷ os) Positive (λ _ x m. h x (inr m))
       (λ e x m.
@@ -66,16 +66,16 @@ module _ (d : Direction) (o : Order) (os : List Order) (v : ℕ) where
       (λ q. let k : x.volume ≡ o.volume - v = ap (λ (z : Order). z.volume) q in omega (arith, leb-false o.volume v e))
       (λ j. h x (inr j)) m)
 
-  pub less_length : length (less v o os) ≤ suc (length os)
+  pub less_length : length (with_first_less v o os) ≤ suc (length os)
   less_length =
       cond_both (leb o.volume v) os (with_volume (o.volume - v) o ∷ os) (λ l. length l ≤ suc (length os))
       (λ _. omega arith) (λ _. omega arith)
 
-  pub less_shorter : o.volume ≤ v → length (less v o os) ≡ length os
+  pub less_shorter : o.volume ≤ v → length (with_first_less v o os) ≡ length os
   less_shorter h = ap length (cond-true (leb o.volume v) os (with_volume (o.volume - v) o ∷ os) (le-leb o.volume v h))
 
   pub volume_less :
-      (q : ℕ) → willing d o.price q ≡ true → v ≤ o.volume → depth d q (o ∷ os) ≡ v + depth d q (less v o os)
+      (q : ℕ) → willing d o.price q ≡ true → v ≤ o.volume → depth d q (o ∷ os) ≡ v + depth d q (with_first_less v o os)
   volume_less q w h =
       let a : cond (willing d o.price q) o.volume 0 ≡ o.volume = cond-true (willing d o.price q) o.volume 0 w in
       let c : cond (willing d o.price q) (o.volume - v) 0 ≡ o.volume - v =
@@ -85,7 +85,7 @@ module _ (d : Direction) (o : Order) (os : List Order) (v : ℕ) where
       (λ l. depth d q (o ∷ os) ≡ v + depth d q l)
       (λ e. omega (arith, leb-true o.volume v e)) (λ e. omega (arith, leb-false o.volume v e))
 
-  pub side_more : (rest : List Order) (T : ℕ) → InRank d (o ∷ os) → v ≤ o.volume → Side d (less v o os) rest T → Side d (o ∷ os) rest (v + T)
+  pub side_more : (rest : List Order) (T : ℕ) → InRank d (o ∷ os) → v ≤ o.volume → Side d (with_first_less v o os) rest T → Side d (o ∷ os) rest (v + T)
   side_more rest T s h r =
       record {
         kept = λ x m. let k = r.kept x m in let j = less_in k.0 k.1 in (j.0, j.1, j.2 ∙ k.2);
@@ -129,7 +129,7 @@ volume_has d p (x ∷ xs) o (inr m) w = omega (arith, volume_has d p xs o m w)
 
 -- The pairing ----------------------------------------------------------------------------------------------------------------------
 
-pub record Pairs (p : ℕ) (bs ss : List Order) (r : Paired) : Type 0 where
+pub record Pairs (p : ℕ) (bs ss : List Order) (r : Pairing) : Type 0 where
   pub buy_side : Side Buy bs r.buys (traded r.slips)
   pub sell_side : Side Sell ss r.sells (traded r.slips)
   pub most : tradable (book_of bs ss) p ≤ traded r.slips
@@ -150,15 +150,15 @@ pairs p (suc n) (b ∷ bs) (s ∷ ss) sb ss' pb ps h =
     let v : ℕ = min b.volume s.volume in
     let hb : v ≤ b.volume = omega arith in
     let hs : v ≤ s.volume = omega arith in
-    let shorter : length (less v b bs) + length (less v s ss) ≤ n =
+    let shorter : length (with_first_less v b bs) + length (with_first_less v s ss) ≤ n =
     ⊎_elim
     (λ k. omega (arith, less_shorter Buy b bs v (omega arith), less_length Sell s ss v))
     (λ k. omega (arith, less_shorter Sell s ss v (omega arith), less_length Buy b bs v))
     (cases_lt b.volume s.volume)
     in
-    let r : Paired = pair p n (less v b bs) (less v s ss) in
-    let ih : Pairs p (less v b bs) (less v s ss) r =
-    pairs p n (less v b bs) (less v s ss) (less_sorted Buy b bs v sb) (less_sorted Sell s ss v ss')
+    let r : Pairing = pair p n (with_first_less v b bs) (with_first_less v s ss) in
+    let ih : Pairs p (with_first_less v b bs) (with_first_less v s ss) r =
+    pairs p n (with_first_less v b bs) (with_first_less v s ss) (less_sorted Buy b bs v sb) (less_sorted Sell s ss v ss')
     (less_positive Buy b bs v pb) (less_positive Sell s ss v ps) shorter
     in
     cond_both _ _ _ (Pairs p (b ∷ bs) (s ∷ ss))
@@ -186,11 +186,11 @@ pair_short p (suc n) [] ss = (omega arith, omega arith)
 pair_short p (suc n) (b ∷ bs) [] = (omega arith, omega arith)
 pair_short p (suc n) (b ∷ bs) (s ∷ ss) =
     let v : ℕ = min b.volume s.volume in
-    let ih = pair_short p n (less v b bs) (less v s ss) in
+    let ih = pair_short p n (with_first_less v b bs) (with_first_less v s ss) in
     cond_both (willing Buy b.price p && willing Sell s.price p)
-    (paired (Trade b.number s.number p v) (pair p n (less v b bs) (less v s ss)))
+    (trade_then (Trade b.number s.number p v) (pair p n (with_first_less v b bs) (with_first_less v s ss)))
     (record { slips = []; buys = b ∷ bs; sells = s ∷ ss })
-    (λ (r : Paired). (length r.buys ≤ suc (length bs)) × (length r.sells ≤ suc (length ss)))
+    (λ (r : Pairing). (length r.buys ≤ suc (length bs)) × (length r.sells ≤ suc (length ss)))
     (λ _. (omega (arith, ih.0, less_length Buy b bs v), omega (arith, ih.1, less_length Sell s ss v)))
     (λ _. (omega arith, omega arith))
 
@@ -198,11 +198,11 @@ pub match_short : (price : Option ℕ) (bs ss : List Order) → (length (match_a
 match_short None bs ss = (omega arith, omega arith)
 match_short (Some p) bs ss = pair_short p (length bs + length ss) bs ss
 
-pub limits_short : (xs : List Order) → length (limits xs) ≤ length xs
+pub limits_short : (xs : List Order) → length (limit_orders xs) ≤ length xs
 limits_short [] = omega arith
 limits_short (o ∷ xs) =
     let h = limits_short xs in
-    cond_both o.market (limits xs) (o ∷ limits xs) (λ l. length l ≤ suc (length xs)) (λ _. omega arith) (λ _. omega arith)
+    cond_both o.market (limit_orders xs) (o ∷ limit_orders xs) (λ l. length l ≤ suc (length xs)) (λ _. omega arith) (λ _. omega arith)
 
 -- The price ------------------------------------------------------------------------------------------------------------------------
 
@@ -238,7 +238,7 @@ module _ (t : Terms) (bs ss : List Order) (sb : InRank Buy bs) (ss' : InRank Sel
   positive_sells x m = (sn x m).volume
 
   -- what was traded at a price, and what is left
-  abbrev After : Paired → Type 0
+  abbrev After : Pairing → Type 0
   After r =
       Side Buy bs r.buys (traded r.slips) × Side Sell ss r.sells (traded r.slips) ×
       ((q : ℕ) → t.lo ≤ q → q ≤ t.hi → tradable (book_of bs ss) q ≤ traded r.slips)
@@ -252,7 +252,7 @@ module _ (t : Terms) (bs ss : List Order) (sb : InRank Buy bs) (ss' : InRank Sel
       in
       (k.buy_side, k.sell_side, λ q lo hi. omega (arith, h.0.greatest q lo hi, k.most))
 
-  after_apart : (r : Paired) → After r → (b s : Order) → Member b r.buys → Member s r.sells → b.price < s.price
+  after_apart : (r : Pairing) → After r → (b s : Order) → Member b r.buys → Member s r.sells → b.price < s.price
   after_apart r h b s mb ms =
       ⊎_elim (λ k. k)
       (λ k.

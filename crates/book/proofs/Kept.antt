@@ -21,7 +21,7 @@ use Rattle.book.specs.Ledger.{Accounts, Ledger, Live, Uncrossed, put, lowered, l
 use Rattle.book.specs.Stages.{is_open, is_closed}
 use Rattle.book.specs.Day.{Day}
 use Rattle.book.specs.Calls.{Outcome, refused_by, done}
-use Rattle.book.specs.Law.{mode, price_of, fed, Settled, Shown, Upheld}
+use Rattle.book.specs.Law.{mode, price_of, feed_of, IsSettled, Shown, Upheld}
 use Rattle.std.specs.List.{find}
 use Rattle.std.specs.Option.{option_or}
 use Rattle.rules.specs.Book.{Book, side}
@@ -62,7 +62,7 @@ pub record Kept (t : Terms) (L : Ledger) (c : Call) (a : Answer Told) (M : Ledge
 
 abbrev pub Good : Terms → Ledger → Call → Outcome → Type 0
 Good t L c (refused_by n) = Unit {0}
-Good t L c (done day a slips) = Kept t L c a (feed t (fed c a) L) slips day
+Good t L c (done day a slips) = Kept t L c a (feed t (feed_of c a) L) slips day
 
 -- Slips change accounts only ----------------------------------------------------------------------------------------------
 
@@ -80,7 +80,7 @@ alter_stage : (a : Alteration) (x : Option Order) (L : Ledger) → (alter_accoun
 alter_stage a None L = refl
 alter_stage a (Some o) L = cond_both (renews a o) (renew a o L) (keep a o L) (λ M. M.stage ≡ L.stage) (λ _. refl) (λ _. refl)
 
-pub feed_stage : (t : Terms) (c : Call) (a : Answer Told) (L : Ledger) → (feed t (fed c a) L).stage ≡ stage_after L.stage c
+pub feed_stage : (t : Terms) (c : Call) (a : Answer Told) (L : Ledger) → (feed t (feed_of c a) L).stage ≡ stage_after L.stage c
 feed_stage t (Enter e) a L = refl
 feed_stage t (Alter x) a L = alter_stage x (L.accounts x.number) L
 feed_stage t (Withdraw w) a L = refl
@@ -143,13 +143,13 @@ abbrev pub Apart : Direction → Order → Order → Type 0
 Apart d x y = willing (opposite d) y.price x.price ≡ false
 
 pub apart_of :
-    (L : Ledger) (b : Book) → Shown L b → Settled L.stage → (d : Direction) (x y : Order) →
+    (L : Ledger) (b : Book) → Shown L b → IsSettled L.stage → (d : Direction) (x y : Order) →
     Member x (side d b) → Member y (side (opposite d) b) → Apart d x y
 apart_of L b s k Buy x y m n = lt-leb y.price x.price (s.gap k x y ((listing (s.sides Buy)).sound x m) ((listing (s.sides Sell)).sound y n))
 apart_of L b s k Sell x y m n = lt-leb x.price y.price (s.gap k y x ((listing (s.sides Buy)).sound y n) ((listing (s.sides Sell)).sound x m))
 
 pub limit_of :
-    (L : Ledger) (b : Book) → Shown L b → Settled L.stage → (d : Direction) (x : Order) → Member x (side d b) → x.market ≡ false
+    (L : Ledger) (b : Book) → Shown L b → IsSettled L.stage → (d : Direction) (x : Order) → Member x (side d b) → x.market ≡ false
 limit_of L b s k d x m = s.limit k d x ((listing (s.sides d)).sound x m)
 
 pub uncrossed_of :
@@ -180,9 +180,9 @@ pub shown_of :
     (L : Ledger) (d : Direction) (own against : List Order) →
     Listed d L own →
     Listed (opposite d) L against →
-    (Settled L.stage → (x y : Order) → Member x own → Member y against → Apart d x y) →
-    (Settled L.stage → Limit own) →
-    (Settled L.stage → Limit against) →
+    (IsSettled L.stage → (x y : Order) → Member x own → Member y against → Apart d x y) →
+    (IsSettled L.stage → Limit own) →
+    (IsSettled L.stage → Limit against) →
     Shown L (sided d own against)
 shown_of L d own against lo la h f g =
     record {
@@ -191,7 +191,7 @@ shown_of L d own against lo la h f g =
       limit = λ k. limit_live L d own against lo la (f k) (g k);
     }
 
-pub unsettled : (s : Stage) → is_open s ≡ false → is_closed s ≡ false → Settled s → ⊥
+pub unsettled : (s : Stage) → is_open s ≡ false → is_closed s ≡ false → IsSettled s → ⊥
 unsettled PreOpen a b k = k
 unsettled Open a b k = let z : ◌≡◌ {A = ℕ} 0 1 = cc in omega arith
 unsettled PreClose a b k = k
@@ -203,8 +203,8 @@ is_open_true Open e = refl
 is_open_true PreClose e = cc
 is_open_true Closed e = cc
 
-pub settled_open : (s : Stage) → s ≡ Open → Settled s
-settled_open s e = subst Settled (sym e) tt
+pub settled_open : (s : Stage) → s ≡ Open → IsSettled s
+settled_open s e = subst IsSettled (sym e) tt
 
 -- An order by its number ----------------------------------------------------------------------------------------------------
 

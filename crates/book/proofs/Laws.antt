@@ -14,11 +14,11 @@ use Rattle.book.specs.declared.answer.Answer.{Answer}
 use Rattle.book.specs.declared.answer.Told.{Told}
 use Rattle.book.specs.Counts.{with_count}
 use Rattle.book.specs.Stages.{next, is_closed, strikes}
-use Rattle.book.specs.Ledger.{Ledger, following, fresh, Live, Uncrossed, live_book, at_stage, post_all, traded}
-use Rattle.book.specs.Calls.{refused_by, done, turnover, Outcome, step, done_by, advance, pass_on, strike, fixing_price, match_at, Paired, lapses, limits}
-use Rattle.book.specs.Day.{Day, new}
-use Rattle.book.specs.Law.{fixing_at, advancing, SlipRight, GreatestFixing, PriceRight, Settled, Shown, Upheld, Try, book_keeping, ledger, Lawful, Law}
-use Rattle.book.specs.Model.{moved, result, day_after, model}
+use Rattle.book.specs.Ledger.{Ledger, following, new_ledger, Live, Uncrossed, live_book, at_stage, post_all, traded}
+use Rattle.book.specs.Calls.{refused_by, done, turnover, Outcome, step, outcome_of, advance, pass_on, strike, fixing_price, match_at, Pairing, lapses, limit_orders}
+use Rattle.book.specs.Day.{Day, new_day}
+use Rattle.book.specs.Law.{fixing_at, strike_mode, SlipRight, GreatestFixing, PriceRight, IsSettled, Shown, Upheld, Try, book_keeping, ledger, Lawful, Law}
+use Rattle.book.specs.Model.{day_after, result, day_after_tries, model}
 use Rattle.book.specs.declared.answer.Told.TheVariants.{Advanced}
 use Rattle.rules.specs.Book.{side}
 use Rattle.tables.specs.Meaning.{Capacity, Contents, Fits, book_of, empty}
@@ -74,7 +74,7 @@ module _ (t : Terms) (L : Ledger) (tab : Contents) (inv : Inv t L tab) where
   slips_traded : traded slips ≡ traded (match_at (fixing_price t tab.book) buys sells).slips
   unfolding slips
   slips_traded =
-      let p : Paired = match_at (fixing_price t tab.book) buys sells in
+      let p : Pairing = match_at (fixing_price t tab.book) buys sells in
       omega (
         arith,
         traded_append p.slips (lapses p.buys ++ lapses p.sells),
@@ -134,11 +134,11 @@ module _ (t : Terms) (L : Ledger) (tab : Contents) (inv : Inv t L tab) where
       }
 
   strike_kept :
-      ((price : Option ℕ) → advancing L.stage price ≡ fixing_at price) → Good t L Advance (done_by (strike t (day_at L tab)))
+      ((price : Option ℕ) → strike_mode L.stage price ≡ fixing_at price) → Good t L Advance (outcome_of (strike t (day_at L tab)))
   unfolding slips
   strike_kept st =
       let price : Option ℕ = fixing_price t tab.book in
-      let p : Paired = match_at price buys sells in
+      let p : Pairing = match_at price buys sells in
       let c : Call = Advance in
       let a : Answer Told = with_count (Advanced (record { stage = next L.stage; price = price; traded = turnover slips })) slips in
       let M : Ledger = at_stage (following L.stage) L in
@@ -156,8 +156,8 @@ module _ (t : Terms) (L : Ledger) (tab : Contents) (inv : Inv t L tab) where
       side_lapses price Buy p.buys p.sells N pr.buy_side pr.sell_side un (λ e. absurd (not_both Buy e))
       in
       let O : Ledger = post_all (lapses p.buys) N in
-      let ls : Limited price Sell O p.sells (limits p.buys) =
-      side_lapses price Sell p.sells (limits p.buys) O lb.against lb.own_side (uncrossed_lapses p.buys N un)
+      let ls : Limited price Sell O p.sells (limit_orders p.buys) =
+      side_lapses price Sell p.sells (limit_orders p.buys) O lb.against lb.own_side (uncrossed_lapses p.buys N un)
       (λ _ x l. limits_limit price p.buys x (lb.own_side.complete x l))
       in
       let Q : Ledger = post_all (lapses p.sells) O in
@@ -166,7 +166,7 @@ module _ (t : Terms) (L : Ledger) (tab : Contents) (inv : Inv t L tab) where
       in
       record {
         upheld =
-            subst (λ m. Upheld t L c a m M slips (book_of (limits p.buys) (limits p.sells))) (sym (st price))
+            subst (λ m. Upheld t L c a m M slips (book_of (limit_orders p.buys) (limit_orders p.sells))) (sym (st price))
             (record {
               each =
                   along_append (SlipRight (fixing_at price)) p.slips (lapses p.buys ++ lapses p.sells) M pr.along
@@ -177,13 +177,13 @@ module _ (t : Terms) (L : Ledger) (tab : Contents) (inv : Inv t L tab) where
                   ap (λ v. with_count (Advanced (record { stage = following L.stage; price = price; traded = v })) slips)
                   (turnover-traded slips);
               shown =
-                  subst (λ K. Shown K (book_of (limits p.buys) (limits p.sells))) (sym end)
+                  subst (λ K. Shown K (book_of (limit_orders p.buys) (limit_orders p.sells))) (sym end)
                   (record {
-                    sides = λ e. listed (sides_of Q Buy (limits p.buys) (limits p.sells) ls.against ls.own_side e);
+                    sides = λ e. listed (sides_of Q Buy (limit_orders p.buys) (limit_orders p.sells) ls.against ls.own_side e);
                     gap = λ _. uncrossed_lapses p.sells O (uncrossed_lapses p.buys N un);
                     limit =
                         λ _.
-                        limit_live Q Buy (limits p.buys) (limits p.sells) ls.against ls.own_side
+                        limit_live Q Buy (limit_orders p.buys) (limit_orders p.sells) ls.against ls.own_side
                         (limits_limit price p.buys) (limits_limit price p.sells);
                   });
             });
@@ -192,21 +192,21 @@ module _ (t : Terms) (L : Ledger) (tab : Contents) (inv : Inv t L tab) where
         tally = sym (post_tally slips M);
         fits =
             (let k = match_short price buys sells in
-            fits_sided tab Buy (limits p.buys) (limits p.sells) (omega (arith, k.0, limits_short p.buys, inv.fits Buy))
+            fits_sided tab Buy (limit_orders p.buys) (limit_orders p.sells) (omega (arith, k.0, limits_short p.buys, inv.fits Buy))
             (omega (arith, k.1, limits_short p.sells, inv.fits Sell)));
       }
 
 -- Each call, each history -------------------------------------------------------------------------------------------------------
 
 -- with no strike only the stage moves
-passed_on : (t : Terms) (L : Ledger) → L.stage ≡ Open → (tab : Contents) → Inv t L tab → Good t L Advance (done_by (pass_on (day_at L tab)))
+passed_on : (t : Terms) (L : Ledger) → L.stage ≡ Open → (tab : Contents) → Inv t L tab → Good t L Advance (outcome_of (pass_on (day_at L tab)))
 passed_on t L e tab inv =
     let M : Ledger = at_stage (following L.stage) L in
     let at : following L.stage ≡ PreClose = ap following e in
     let a : Answer Told = with_count (Advanced (record { stage = next L.stage; price = None; traded = 0 })) [] in
     record {
       upheld =
-          subst (λ m. Upheld t L Advance a m M [] tab.book) (sym (ap (λ s. advancing s None) e))
+          subst (λ m. Upheld t L Advance a m M [] tab.book) (sym (ap (λ s. strike_mode s None) e))
           (record {
             each = tt;
             fixing = tt;
@@ -214,8 +214,8 @@ passed_on t L e tab inv =
             shown =
                 record {
                   sides = λ d. listed (listed_as d L M refl (side d tab.book) (listing (inv.shown.sides d)));
-                  gap = λ k. absurd (subst Settled at k);
-                  limit = λ k. absurd (subst Settled at k);
+                  gap = λ k. absurd (subst IsSettled at k);
+                  limit = λ k. absurd (subst IsSettled at k);
                 };
           });
       opened = inv.opened;
@@ -224,18 +224,18 @@ passed_on t L e tab inv =
       fits = inv.fits;
     }
 
-advance_good : (t : Terms) (L : Ledger) (tab : Contents) → Inv t L tab → is_closed L.stage ≡ false → Good t L Advance (done_by (advance t (day_at L tab)))
+advance_good : (t : Terms) (L : Ledger) (tab : Contents) → Inv t L tab → is_closed L.stage ≡ false → Good t L Advance (outcome_of (advance t (day_at L tab)))
 advance_good t L tab inv not-closed = on L.stage refl not-closed
   where
-    struck_on : (s : Stage) → L.stage ≡ s → strikes s ≡ true → ((price : Option ℕ) → advancing s price ≡ fixing_at price) → Good t L Advance (done_by (advance t (day_at L tab)))
+    struck_on : (s : Stage) → L.stage ≡ s → strikes s ≡ true → ((price : Option ℕ) → strike_mode s price ≡ fixing_at price) → Good t L Advance (outcome_of (advance t (day_at L tab)))
     struck_on s e h st =
-        subst (λ m. Good t L Advance (done_by m)) (sym (cond-true (strikes L.stage) _ _ (ap strikes e ∙ h)))
-        (strike_kept t L tab inv (λ price. ap (λ s. advancing s price) e ∙ st price))
+        subst (λ m. Good t L Advance (outcome_of m)) (sym (cond-true (strikes L.stage) _ _ (ap strikes e ∙ h)))
+        (strike_kept t L tab inv (λ price. ap (λ s. strike_mode s price) e ∙ st price))
 
-    on : (s : Stage) → L.stage ≡ s → is_closed L.stage ≡ false → Good t L Advance (done_by (advance t (day_at L tab)))
+    on : (s : Stage) → L.stage ≡ s → is_closed L.stage ≡ false → Good t L Advance (outcome_of (advance t (day_at L tab)))
     on PreOpen e h = struck_on PreOpen e refl (λ price. refl)
     on Open e h =
-        subst (λ m. Good t L Advance (done_by m)) (sym (cond-false (strikes L.stage) _ _ (ap strikes e))) (passed_on t L e tab inv)
+        subst (λ m. Good t L Advance (outcome_of m)) (sym (cond-false (strikes L.stage) _ _ (ap strikes e))) (passed_on t L e tab inv)
     on PreClose e h = struck_on PreClose e refl (λ price. refl)
     on Closed e h = absurd (both_ways (is_closed L.stage) h (ap is_closed e))
 
@@ -257,7 +257,7 @@ pub record Agrees (t : Terms) (L : Ledger) (day : Day) : Type 0 where
   pub day_is : day ≡ day_at L day.table
   pub inv : Inv t L day.table
 
-pub start_agrees : (t : Terms) (cap : Capacity) → Agrees t fresh (new cap)
+pub start_agrees : (t : Terms) (cap : Capacity) → Agrees t new_ledger (new_day cap)
 start_agrees t cap =
     record {
       day_is = refl;
@@ -277,14 +277,14 @@ start_agrees t cap =
     none_some : (o : Order) → ◌≡◌ {A = Option Order} None (Some o) → ⊥
     none_some o e = let z : ◌≡◌ {A = ℕ} 0 1 = cc in omega arith
 
-    never : {d : Direction} {o : Order} → Live d fresh o → ⊥
+    never : {d : Direction} {o : Order} → Live d new_ledger o → ⊥
     never {d} {o} l = none_some o l.account
 
-    nothing : (d : Direction) → Exactly d (Live d fresh) (side d empty)
+    nothing : (d : Direction) → Exactly d (Live d new_ledger) (side d empty)
     nothing Buy = record { sorted = refl; sound = λ o m. absurd m; complete = λ o l. never l }
     nothing Sell = record { sorted = refl; sound = λ o m. absurd m; complete = λ o l. never l }
 
-    none : Fits (new cap).table
+    none : Fits (new_day cap).table
     none Buy = omega arith
     none Sell = omega arith
 
@@ -295,7 +295,7 @@ module _ (t : Terms) where
 
   pub after_agrees :
       (L : Ledger) (day : Day) (c : Call) (out : Outcome) → Agrees t L day → Good t L c out →
-      Agrees t (book_keeping t c (result out) L) (moved day out)
+      Agrees t (book_keeping t c (result out) L) (day_after day out)
   after_agrees L day c (refused_by n) g h = g
   after_agrees L day c (done after a ss) g h =
       record {
@@ -305,21 +305,21 @@ module _ (t : Terms) where
 
   pub lawful :
       (L : Ledger) (day : Day) (c : Call) (out : Outcome) → Agrees t L day → Good t L c out →
-      Lawful t L c (result out) (moved day out).table.book
+      Lawful t L c (result out) (day_after day out).table.book
   lawful L day c (refused_by n) g h = g.inv.shown
   lawful L day c (done after a ss) g h = h.upheld
 
-  pub history_agrees : (cap : Capacity) (past : List Try) → Agrees t (ledger model t cap past) (day_after step t cap past)
+  pub history_agrees : (cap : Capacity) (past : List Try) → Agrees t (ledger model t cap past) (day_after_tries step t cap past)
   history_agrees cap [] = start_agrees t cap
   history_agrees cap (x ∷ past) =
-      let day : Day = day_after step t cap past in
+      let day : Day = day_after_tries step t cap past in
       let L : Ledger = ledger model t cap past in
       let g : Agrees t L day = history_agrees cap past in
       after_agrees L day x.call (step t day x.call x.room) g (good L day g x.call x.room)
 
 pub law : Law model
 law t cap past x =
-    let day : Day = day_after step t cap past in
+    let day : Day = day_after_tries step t cap past in
     let L : Ledger = ledger model t cap past in
     let g : Agrees t L day = history_agrees t cap past in
     lawful t L day x.call (step t day x.call x.room) g (good t L day g x.call x.room)

@@ -13,7 +13,7 @@ use Rattle.book.specs.declared.slip.Slip.{Slip}
 use Rattle.book.specs.declared.slip.Slip.TheVariants.{Trade, Lapse}
 use Rattle.tables.specs.Meaning.{Capacity}
 use Rattle.book.specs.Ledger.{Accounts, Ledger, Live, put, lowered, lower, rewritten, renews, renew, keep, opening, alter_account, Feed, entry, alteration, withdrawal, progress, feed, post, post_all, with_live, live_upto, live_book}
-use Rattle.book.specs.Law.{Try, Verdict, refused, accepted, Engine, fed, book_keeping, ledger}
+use Rattle.book.specs.Law.{Try, Verdict, refused, accepted, Engine, feed_of, book_keeping, ledger}
 use Rattle.book.specs.LiveOrders.{LiveBookIsLive}
 use Rattle.book.proofs.Arrivals.{put_cases}
 use Rattle.book.proofs.Depths.{same_itself}
@@ -99,7 +99,7 @@ fine_all (Lapse n v ∷ ss) L h = fine_all ss (post (Lapse n v) L) (numbered_fal
 
 fine_keeping : (t : Terms) (c : Call) (r : Verdict) (L : Ledger) → Fine L → Fine (book_keeping t c r L)
 fine_keeping t c (refused n) L h = h
-fine_keeping t c (accepted a slips) L h = fine_all slips (feed t (fed c a) L) (fine_feed t (fed c a) L h)
+fine_keeping t c (accepted a slips) L h = fine_all slips (feed t (feed_of c a) L) (fine_feed t (feed_of c a) L h)
 
 -- of every history of every engine
 fine : (e : Engine) (t : Terms) (cap : Capacity) (past : List Try) → Fine (ledger e t cap past)

@@ -17,7 +17,7 @@ use Rattle.tables.specs.Meaning.{Capacity}
 use Rattle.book.specs.Ledger.{live_book, following, Ledger, Live, First, Uncrossed, withdrawal, feed, post, post_all, Along}
 use Rattle.rules.proofs.Steps.{one_price}
 use Rattle.rules.specs.Book.{Book}
-use Rattle.book.specs.Law.{IsMarket, Try, Verdict, refused, accepted, Came, Engine, Law, Lawful, Upheld, Shown, Settled, Mode, fixing_at, continuous, quiet, mode, advancing, dealing, price_of, withdrawn, fed, due, book_keeping, ledger, Priced, TradeRight, LapseRight, InTurn, SlipRight, GreatestFixing, PriceRight, FixingRight}
+use Rattle.book.specs.Law.{IsMarket, Try, Verdict, refused, accepted, Came, Engine, Law, Lawful, Upheld, Shown, IsSettled, Mode, fixing_at, continuous, quiet, mode, strike_mode, entry_mode, price_of, volume_withdrawn, feed_of, due_answer, book_keeping, ledger, Priced, TradeRight, LapseRight, InTurn, SlipRight, GreatestFixing, PriceRight, FixingRight}
 use Rattle.book.specs.Pinned.{refusal, SameRefusals, Pinned}
 use Rattle.book.proofs.Members.{listing}
 use Rattle.book.proofs.Ranks.{before_irrefl, before_trans}
@@ -37,8 +37,8 @@ module _ (t : Terms) (L : Ledger) where
   price_one (Some P) (Some Q) xs ys a b f g = ap Some (one_price t.reference t.lo t.hi (live_book L) t.low t.high P Q f g)
 
   advancing_one :
-      (s : Stage) (p q : Option ℕ) (xs ys : List Slip) → FixingRight t L (advancing s p) xs → FixingRight t L (advancing s q) ys →
-      advancing s p ≡ advancing s q
+      (s : Stage) (p q : Option ℕ) (xs ys : List Slip) → FixingRight t L (strike_mode s p) xs → FixingRight t L (strike_mode s q) ys →
+      strike_mode s p ≡ strike_mode s q
   advancing_one PreOpen p q xs ys a b = ap fixing_at (price_one p q xs ys a.0 b.0 a.1 b.1)
   advancing_one Open p q xs ys a b = refl
   advancing_one PreClose p q xs ys a b = ap fixing_at (price_one p q xs ys a.0 b.0 a.1 b.1)
@@ -155,38 +155,38 @@ quiet_none L (Lapse n v ∷ xs) h = absurd h.0.may
 
 -- One call ------------------------------------------------------------------------------------------------------------------------
 
-dealing_busy : (s : Stage) → (dealing s ≡ quiet) ⊎ Settled s
+dealing_busy : (s : Stage) → (entry_mode s ≡ quiet) ⊎ IsSettled s
 dealing_busy PreOpen = inl refl
 dealing_busy Open = inr tt
 dealing_busy PreClose = inl refl
 dealing_busy Closed = inl refl
 
-advancing_busy : (s : Stage) (p : Option ℕ) → (advancing s p ≡ quiet) ⊎ Settled (following s)
+advancing_busy : (s : Stage) (p : Option ℕ) → (strike_mode s p ≡ quiet) ⊎ IsSettled (following s)
 advancing_busy PreOpen p = inr tt
 advancing_busy Open p = inl refl
 advancing_busy PreClose p = inr tt
 advancing_busy Closed p = inl refl
 
 -- where slips are written, the stage after them is settled
-busy_after : (s : Stage) (c : Call) (p : Option ℕ) → (mode s c p ≡ quiet) ⊎ Settled (stage_after s c)
+busy_after : (s : Stage) (c : Call) (p : Option ℕ) → (mode s c p ≡ quiet) ⊎ IsSettled (stage_after s c)
 busy_after s (Enter e) p = dealing_busy s
 busy_after s (Alter a) p = dealing_busy s
 busy_after s (Withdraw w) p = inl refl
 busy_after s Advance p = advancing_busy s p
 
-busy : (t : Terms) (L : Ledger) (c : Call) (a : Answer Told) (p : Option ℕ) → (mode L.stage c p ≡ quiet) ⊎ Settled (feed t (fed c a) L).stage
-busy t L c a p = subst (λ s. (mode L.stage c p ≡ quiet) ⊎ Settled s) (sym (feed_stage t c a L)) (busy_after L.stage c p)
+busy : (t : Terms) (L : Ledger) (c : Call) (a : Answer Told) (p : Option ℕ) → (mode L.stage c p ≡ quiet) ⊎ IsSettled (feed t (feed_of c a) L).stage
+busy t L c a p = subst (λ s. (mode L.stage c p ≡ quiet) ⊎ IsSettled s) (sym (feed_stage t c a L)) (busy_after L.stage c p)
 
 fed_one :
-    (c : Call) (m m' : Mode) (L : Ledger) (a a' : Answer Told) (xs ys : List Slip) (N N' : Ledger) → a ≡ due c m L xs N → a' ≡ due c m' L ys N' →
-    fed c a ≡ fed c a'
+    (c : Call) (m m' : Mode) (L : Ledger) (a a' : Answer Told) (xs ys : List Slip) (N N' : Ledger) → a ≡ due_answer c m L xs N → a' ≡ due_answer c m' L ys N' →
+    feed_of c a ≡ feed_of c a'
 fed_one (Withdraw w) m m' L a a' xs ys N N' e f =
-    ap (withdrawal w.number) (ap (λ (x : Answer Told). withdrawn x.told) e ∙ sym (ap (λ (x : Answer Told). withdrawn x.told) f))
+    ap (withdrawal w.number) (ap (λ (x : Answer Told). volume_withdrawn x.told) e ∙ sym (ap (λ (x : Answer Told). volume_withdrawn x.told) f))
 fed_one _ m m' L a a' xs ys N N' e f = refl
 
-done_with : (slips : List Slip) (M : Ledger) (b : Book) → Settled M.stage → Shown (post_all slips M) b → DoneWith (post_all slips M)
+done_with : (slips : List Slip) (M : Ledger) (b : Book) → IsSettled M.stage → Shown (post_all slips M) b → DoneWith (post_all slips M)
 done_with slips M b k s =
-    let j : Settled (post_all slips M).stage = subst Settled (sym (post_stage slips M)) k in
+    let j : IsSettled (post_all slips M).stage = subst IsSettled (sym (post_stage slips M)) k in
     record { gap = s.gap j; limit = s.limit j }
 
 -- one ledger shows as one book
@@ -208,7 +208,7 @@ same_from :
 same_from t L c a a' m M xs ys b b' e u w =
     let s : Shown (post_all xs M) b' = subst (λ z. Shown (post_all z M) b') (sym e) w.shown in
     record {
-      answer = u.answer ∙ (ap (λ z. due c m L z (post_all z M)) e ∙ sym w.answer);
+      answer = u.answer ∙ (ap (λ z. due_answer c m L z (post_all z M)) e ∙ sym w.answer);
       slips = e;
       book = book_one (post_all xs M) b b' u.shown s;
     }
@@ -218,14 +218,14 @@ call_one :
     Lawful t L c (accepted a xs) b → Lawful t L c (accepted a' ys) b' → Same a a' xs ys b b'
 call_one t L ar c a a' xs ys b b' u w =
     let m : Mode = mode L.stage c (price_of a) in
-    let M : Ledger = feed t (fed c a) L in
+    let M : Ledger = feed t (feed_of c a) L in
     let em : mode L.stage c (price_of a') ≡ m = mode_one t L c (price_of a') (price_of a) ys xs w.fixing u.fixing in
-    let ef : feed t (fed c a') L ≡ M =
+    let ef : feed t (feed_of c a') L ≡ M =
     ap (λ f. feed t f L)
-    (fed_one c (mode L.stage c (price_of a')) m L a' a ys xs (post_all ys (feed t (fed c a') L)) (post_all xs M) w.answer u.answer)
+    (fed_one c (mode L.stage c (price_of a')) m L a' a ys xs (post_all ys (feed t (feed_of c a') L)) (post_all xs M) w.answer u.answer)
     in
     let w' : Upheld t L c a' m M ys b' =
-    subst (λ K. Upheld t L c a' m K ys b') ef (subst (λ z. Upheld t L c a' z (feed t (fed c a') L) ys b') em w)
+    subst (λ K. Upheld t L c a' m K ys b') ef (subst (λ z. Upheld t L c a' z (feed t (feed_of c a') L) ys b') em w)
     in
     let e : xs ≡ ys =
     ⊎_elim
@@ -233,7 +233,7 @@ call_one t L ar c a a' xs ys b b' u w =
     quiet_none M xs (subst (λ z. Along (SlipRight z) M xs) q u.each) ∙
     sym (quiet_none M ys (subst (λ z. Along (SlipRight z) M ys) q w'.each)))
     (λ k.
-    slips_one m M (arrivals_feed t (fed c a) L ar) xs ys u.each w'.each (done_with xs M b k u.shown)
+    slips_one m M (arrivals_feed t (feed_of c a) L ar) xs ys u.each w'.each (done_with xs M b k u.shown)
     (done_with ys M b' k w'.shown))
     (busy t L c a (price_of a))
     in

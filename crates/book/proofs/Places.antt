@@ -11,7 +11,7 @@ use Rattle.book.specs.Day.{Day}
 use Rattle.book.specs.Calls.{step}
 use Rattle.book.specs.Ledger.{Ledger}
 use Rattle.book.specs.Law.{ledger}
-use Rattle.book.specs.Model.{model, day_after}
+use Rattle.book.specs.Model.{model, day_after_tries}
 use Rattle.book.specs.Places.{TakesByPlaces}
 use Rattle.tables.specs.Meaning.{Capacity}
 use Rattle.book.proofs.Homes.{home_after}
@@ -36,7 +36,7 @@ module _ (t : Terms) (L : Ledger) (day : Day) (g : Agrees t L day) where
 
 pub takes_by_places : TakesByPlaces
 takes_by_places t cap past =
-    let day : Day = day_after step t cap past in
+    let day : Day = day_after_tries step t cap past in
     let home : day.table.capacity ≡ cap = home_after t cap past in
     let g : Agrees t (ledger model t cap past) day = history_agrees t cap past in
     record {

@@ -2,12 +2,12 @@
 use Rattle.std.proofs.Common.{◌≡◌, List, [], ◌∷◌, sym, refl, subst}
 use Rattle.rules.specs.declared.terms.Terms.{Terms}
 use Rattle.tables.specs.Meaning.{Capacity, empty}
-use Rattle.book.specs.Ledger.{fresh}
+use Rattle.book.specs.Ledger.{new_ledger}
 use Rattle.book.specs.Law.{Try, Law, Shown, ledger}
 use Rattle.book.specs.Flaws.{refusing}
 use Rattle.book.proofs.Laws.{start_agrees}
 
-still_fresh : (t : Terms) (cap : Capacity) (past : List Try) → ledger refusing t cap past ≡ fresh
+still_fresh : (t : Terms) (cap : Capacity) (past : List Try) → ledger refusing t cap past ≡ new_ledger
 still_fresh t cap [] = refl
 still_fresh t cap (x ∷ past) = still_fresh t cap past
 

@@ -12,7 +12,7 @@ use Rattle.tables.specs.Listing.{times, insert, without}
 use Rattle.tables.specs.Meaning.{Contents, Fits, book_of, holding, listed, with_side, each_side, held, takes, put_in, added, removed}
 use Rattle.tables.proofs.Keeps.{held_none}
 use Rattle.book.proofs.Members.{Member}
-use Rattle.book.specs.Calls.{dealt}
+use Rattle.book.specs.Calls.{with_rest}
 use Rattle.book.proofs.Ranks.{none_numbered}
 
 -- a book by one side and the side that it trades against
@@ -84,7 +84,7 @@ module _ (t : Contents) (e : Order) (own against : List Order) where
       (table_of t e.direction own against) h ∙
       ap (holding t) (put_sided e.direction own against (insert (before e.direction) e))
 
-pub dealt_table : (t : Contents) (d : Direction) (own against rest : List Order) → dealt d rest (table_of t d own against) ≡ table_of t d own rest
+pub dealt_table : (t : Contents) (d : Direction) (own against rest : List Order) → with_rest d rest (table_of t d own against) ≡ table_of t d own rest
 dealt_table t d own against rest = ap (holding t) (dealt_sided d own against rest)
 
 -- Removal ----------------------------------------------------------------------------------------------------------------

@@ -9,7 +9,7 @@ use Rattle.book.specs.declared.slip.Slip.TheVariants.{Trade, Lapse}
 use Rattle.book.proofs.Ranks.{InRank}
 use Rattle.book.specs.Exactly.{Before}
 use Rattle.book.specs.Ledger.{Ledger, Live, Uncrossed, post, post_all, Along, traded}
-use Rattle.book.specs.Calls.{turnover, less, Paired, paired, pair, match_at, lapses, limits}
+use Rattle.book.specs.Calls.{turnover, with_first_less, Pairing, trade_then, pair, match_at, lapses, limit_orders}
 use Rattle.book.specs.Law.{fixing_at, SlipRight, InTurn, IsMarket}
 use Rattle.book.proofs.Members.{Member}
 use Rattle.rules.specs.Side.{opposite, willing}
@@ -18,7 +18,7 @@ use Rattle.book.proofs.Accounts.{live_same, live_off, down, down_off, down_live,
 use Rattle.book.proofs.Trades.{Listed, first_of, trade_step}
 
 module _ (price : Option ℕ) where
-  pub record PairedRight (L : Ledger) (r : Paired) : Type 0 where
+  pub record PairedRight (L : Ledger) (r : Pairing) : Type 0 where
     pub along : Along (SlipRight (fixing_at price)) L r.slips
     pub buy_side : Listed Buy (post_all r.slips L) r.buys
     pub sell_side : Listed Sell (post_all r.slips L) r.sells
@@ -33,9 +33,9 @@ module _ (price : Option ℕ) where
       willing Buy b.price p ≡ true →
       willing Sell s.price p ≡ true →
       Listed Buy L (b ∷ bs) → Listed Sell L (s ∷ ss) →
-      (r : Paired) →
+      (r : Pairing) →
       PairedRight (post (Trade b.number s.number p v) L) r →
-      PairedRight L (paired (Trade b.number s.number p v) r)
+      PairedRight L (trade_then (Trade b.number s.number p v) r)
   paired_more p e L b bs s ss v hv wb ws lb ls r k =
       record {
         along = (
@@ -71,8 +71,8 @@ module _ (price : Option ℕ) where
       cond_both _ _ _ (PairedRight L)
       (λ w.
       let ws = and_parts (willing Buy b.price p) (willing Sell s.price p) w in
-      paired_more p e L b bs s ss v refl ws.0 ws.1 lb ls (pair p n (less v b bs) (less v s ss))
-      (pair_right p e n (less v b bs) (less v s ss) (post (Trade b.number s.number p v) L) k.0 k.1))
+      paired_more p e L b bs s ss v refl ws.0 ws.1 lb ls (pair p n (with_first_less v b bs) (with_first_less v s ss))
+      (pair_right p e n (with_first_less v b bs) (with_first_less v s ss) (post (Trade b.number s.number p v) L) k.0 k.1))
       (λ _. paired_none L (b ∷ bs) (s ∷ ss) lb ls)
 
   pub match_right :
@@ -169,11 +169,11 @@ module _ (price : Option ℕ) where
       Live d L o →
       Uncrossed L →
       InTurn IsMarket d L o →
-      Lapsed d (down o.number o.volume L) (limits xs) ys K (lapses xs) →
-      (o.market ≡ false → Lapsed d L (limits xs) ys (λ x. (x ≡ o) ⊎ K x) (lapses xs)) →
+      Lapsed d (down o.number o.volume L) (limit_orders xs) ys K (lapses xs) →
+      (o.market ≡ false → Lapsed d L (limit_orders xs) ys (λ x. (x ≡ o) ⊎ K x) (lapses xs)) →
       (m : Bool) →
       o.market ≡ m →
-      Lapsed d L (cond m (limits xs) (o ∷ limits xs)) ys K (cond m (Lapse o.number o.volume ∷ lapses xs) (lapses xs))
+      Lapsed d L (cond m (limit_orders xs) (o ∷ limit_orders xs)) ys K (cond m (Lapse o.number o.volume ∷ lapses xs) (lapses xs))
   lapse_on d o xs ys L K l un turn drop keep true e =
       record {
         along = (
@@ -198,14 +198,14 @@ module _ (price : Option ℕ) where
       record {
         along = kept.along;
         against = kept.against;
-        sound = λ x k. kept.sound x (ungroup x o (Member x (limits xs)) (K x) k);
-        complete = λ x l. regroup x o (Member x (limits xs)) (K x) (kept.complete x l);
+        sound = λ x k. kept.sound x (ungroup x o (Member x (limit_orders xs)) (K x) k);
+        complete = λ x l. regroup x o (Member x (limit_orders xs)) (K x) (kept.complete x l);
       }
 
   pub lapse_right :
       (d : Direction) (xs ys : List Order) (L : Ledger) (K : Order → Type 0) →
       Split d L xs K → Listed (opposite d) L ys → Uncrossed L → SellTurn d L →
-      Lapsed d L (limits xs) ys K (lapses xs)
+      Lapsed d L (limit_orders xs) ys K (lapses xs)
   lapse_right d [] ys L K sp la un st =
       record {
         along = tt;
@@ -220,30 +220,30 @@ module _ (price : Option ℕ) where
       (uncrossed_down o.number o.volume L un) (turn_down d o.number o.volume L st))
       (λ lim. lapse_right d xs ys L (λ x. (x ≡ o) ⊎ K x) (split_keep d L o xs K sp lim) la un st) o.market refl
 
-  pub limits_in : (xs : List Order) (x : Order) → Member x (limits xs) → Member x xs
+  pub limits_in : (xs : List Order) (x : Order) → Member x (limit_orders xs) → Member x xs
   limits_in [] x m = m
   limits_in (o ∷ xs) x m =
-      cond_both o.market (limits xs) (o ∷ limits xs) (λ l. Member x l → Member x (o ∷ xs))
+      cond_both o.market (limit_orders xs) (o ∷ limit_orders xs) (λ l. Member x l → Member x (o ∷ xs))
       (λ _ k. inr (limits_in xs x k))
       (λ _ k. ⊎_elim inl (λ j. inr (limits_in xs x j)) k) m
 
-  pub limits_limit : (xs : List Order) (x : Order) → Member x (limits xs) → x.market ≡ false
+  pub limits_limit : (xs : List Order) (x : Order) → Member x (limit_orders xs) → x.market ≡ false
   limits_limit [] x m = absurd m
   limits_limit (o ∷ xs) x m =
-      cond_both o.market (limits xs) (o ∷ limits xs) (λ l. Member x l → x.market ≡ false)
+      cond_both o.market (limit_orders xs) (o ∷ limit_orders xs) (λ l. Member x l → x.market ≡ false)
       (λ _ k. limits_limit xs x k)
       (λ e k. ⊎_elim (λ q. ap (λ (z : Order). z.market) q ∙ e) (λ j. limits_limit xs x j) k) m
 
-  limits_sorted : (d : Direction) (xs : List Order) → InRank d xs → InRank d (limits xs)
+  limits_sorted : (d : Direction) (xs : List Order) → InRank d xs → InRank d (limit_orders xs)
   limits_sorted d [] s = refl
   limits_sorted d (o ∷ xs) s =
-      cond_both o.market (limits xs) (o ∷ limits xs) (InRank d)
+      cond_both o.market (limit_orders xs) (o ∷ limit_orders xs) (InRank d)
       (λ _. limits_sorted d xs (rest_in d o xs s))
-      (λ _. in_rank_from d o (limits xs) (λ x m. ahead_of d o xs s x (limits_in xs x m)) (limits_sorted d xs (rest_in d o xs s)))
+      (λ _. in_rank_from d o (limit_orders xs) (λ x m. ahead_of d o xs s x (limits_in xs x m)) (limits_sorted d xs (rest_in d o xs s)))
 
   pub record Limited (d : Direction) (L : Ledger) (xs ys : List Order) : Type 0 where
     pub along : Along (SlipRight (fixing_at price)) L (lapses xs)
-    pub own_side : Listed d (post_all (lapses xs) L) (limits xs)
+    pub own_side : Listed d (post_all (lapses xs) L) (limit_orders xs)
     pub against : Listed (opposite d) (post_all (lapses xs) L) ys
 
   -- the market orders of one side lapse

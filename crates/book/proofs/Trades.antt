@@ -9,7 +9,7 @@ use Rattle.book.specs.declared.slip.Slip.{Slip}
 use Rattle.book.specs.declared.slip.Slip.TheVariants.{Trade}
 use Rattle.book.specs.Exactly.{Before}
 use Rattle.book.specs.Ledger.{Ledger, Live, First, post, post_all, Along, traded}
-use Rattle.book.specs.Calls.{less, trade, Swept, swept, sweep}
+use Rattle.book.specs.Calls.{with_first_less, trade, Sweep, slip_then, sweep}
 use Rattle.book.specs.Law.{continuous, Entering, SlipRight}
 use Rattle.book.proofs.Members.{Exactly, Member}
 use Rattle.rules.specs.Rank.{before}
@@ -35,13 +35,13 @@ pub trade_step :
     Listed Sell L (s ∷ ss) →
     v ≤ b.volume →
     v ≤ s.volume →
-    Listed Buy (post (Trade b.number s.number q v) L) (less v b bs) ×
-    Listed Sell (post (Trade b.number s.number q v) L) (less v s ss)
+    Listed Buy (post (Trade b.number s.number q v) L) (with_first_less v b bs) ×
+    Listed Sell (post (Trade b.number s.number q v) L) (with_first_less v s ss)
 trade_step L b bs s ss q v eb es hb hs =
     let M : Ledger = down b.number v L in
-    let mb : Listed Buy M (less v b bs) = down_own Buy v L b bs eb hb in
+    let mb : Listed Buy M (with_first_less v b bs) = down_own Buy v L b bs eb hb in
     let ms : Listed Sell M (s ∷ ss) = down_against Buy v L b (s ∷ ss) (eb.sound b (inl refl)) es in
-    (down_against Sell v M s (less v b bs) (ms.sound s (inl refl)) mb, down_own Sell v M s ss ms hs)
+    (down_against Sell v M s (with_first_less v b bs) (ms.sound s (inl refl)) mb, down_own Sell v M s ss ms hs)
 
 -- the same, by the side of one of the two
 pub trade_both :
@@ -50,8 +50,8 @@ pub trade_both :
     Listed (opposite d) L (o ∷ os) →
     v ≤ e.volume →
     v ≤ o.volume →
-    Listed d (post (trade d e.number o.number q v) L) (less v e es) ×
-    Listed (opposite d) (post (trade d e.number o.number q v) L) (less v o os)
+    Listed d (post (trade d e.number o.number q v) L) (with_first_less v e es) ×
+    Listed (opposite d) (post (trade d e.number o.number q v) L) (with_first_less v o os)
 trade_both Buy L e es o os q v le lo he ho = trade_step L e es o os q v le lo he ho
 trade_both Sell L e es o os q v le lo he ho =
     let r = trade_step L o os e es q v lo le ho he in
@@ -169,7 +169,7 @@ stand_none d e v own h = cond-true (eqb v 0) own (insert (before d) (with_volume
 pub less_stand :
     (d : Direction) (e : Order) (v w : ℕ) (own : List Order) →
     ((x : Order) → Member x own → Before d e x) →
-    less w (with_volume v e) own ≡ stand d e (v - w) own
+    with_first_less w (with_volume v e) own ≡ stand d e (v - w) own
 less_stand d e v w own b =
     cond_both (leb v w) own (with_volume (v - w) e ∷ own) (λ l. l ≡ stand d e (v - w) own)
     (λ h. sym (stand_none d e (v - w) own (omega (arith, leb-true v w h))))
@@ -177,7 +177,7 @@ less_stand d e v w own b =
 
 module _ (d : Direction) (e : Order) (own : List Order) where
   -- what the sweep does, from the ledger L on, with v to trade
-  pub record SweptRight (L : Ledger) (opp : List Order) (v : ℕ) (s : Swept) : Type 0 where
+  pub record SweptRight (L : Ledger) (opp : List Order) (v : ℕ) (s : Sweep) : Type 0 where
     pub along : Along (SlipRight continuous) L s.slips
     pub sum : traded s.slips + s.left ≡ v
     pub account : (post_all s.slips L).accounts e.number ≡ Some (with_volume s.left e)
@@ -227,7 +227,7 @@ module _ (d : Direction) (e : Order) (own : List Order) where
         Listed (opposite d) (post (trade d e.number o.number o.price o.volume) L) os
     whole_step fits =
         let M : Ledger = post (trade d e.number o.number o.price o.volume) L in
-        let r : Listed d M (less o.volume (with_volume v e) own) × Listed (opposite d) M (less o.volume o os) =
+        let r : Listed d M (with_first_less o.volume (with_volume v e) own) × Listed (opposite d) M (with_first_less o.volume o os) =
         trade_both d L (with_volume v e) own o os o.price o.volume stands lo fits (omega arith)
         in (
           subst (Listed d M) (less_stand d e v o.volume own ahead) r.0,
@@ -255,9 +255,9 @@ module _ (d : Direction) (e : Order) (own : List Order) where
 
     swept_more :
         o.volume ≤ v →
-        (s : Swept) →
+        (s : Sweep) →
         SweptRight (post (trade d e.number o.number o.price o.volume) L) os (v - o.volume) s →
-        SweptRight L (o ∷ os) v (swept (trade d e.number o.number o.price o.volume) s)
+        SweptRight L (o ∷ os) v (slip_then (trade d e.number o.number o.price o.volume) s)
     swept_more fits s r =
         record {
           along = (slip_right o.volume (omega arith), r.along);
@@ -281,7 +281,7 @@ module _ (d : Direction) (e : Order) (own : List Order) where
         })
     swept_part fits =
         let M : Ledger = post (trade d e.number o.number o.price v) L in
-        let r : Listed d M (less v (with_volume v e) own) × Listed (opposite d) M (less v o os) =
+        let r : Listed d M (with_first_less v (with_volume v e) own) × Listed (opposite d) M (with_first_less v o os) =
         trade_both d L (with_volume v e) own o os o.price v stands lo (omega arith) (omega arith)
         in
         record {

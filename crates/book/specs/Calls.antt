@@ -22,7 +22,7 @@ use Rattle.book.specs.declared.slip.Slip.TheVariants.{Trade, Lapse}
 use Rattle.book.specs.declared.stage.Stage.{Stage}
 use Rattle.book.specs.Counts.{with_count}
 use Rattle.book.specs.Day.{Day}
-use Rattle.book.specs.Rows.{gated, named, enter_rows, alter_rows, withdraw_rows, advance_rows}
+use Rattle.book.specs.Rows.{past_rows, order_named, enter_rows, alter_rows, withdraw_rows, advance_rows}
 use Rattle.book.specs.Stages.{is_open, next, strikes}
 
 -- Orders ------------------------------------------------------------------------------------------------------------
@@ -43,8 +43,8 @@ is_market None = true
 is_market (Some p) = false
 
 -- the order that an enter makes with the arrival n, which is its number too
-abbrev pub entering : Terms → ℕ → NewOrder → Order
-entering t n e =
+abbrev pub order_of : Terms → ℕ → NewOrder → Order
+order_of t n e =
     record {
       number = n;
       member = e.member;
@@ -56,17 +56,17 @@ entering t n e =
     }
 
 -- the alter gives the order a new arrival
-abbrev pub moves : Alteration → Order → Bool
-moves a o = not (a.price == o.price) || nat_lt o.volume a.volume
+abbrev pub takes_new_arrival : Alteration → Order → Bool
+takes_new_arrival a o = not (a.price == o.price) || nat_lt o.volume a.volume
 
 -- the tally after such an alter
 abbrev pub alter_tally : ℕ → Alteration → Order → ℕ
-alter_tally tally a o = cond (moves a o) (suc tally) tally
+alter_tally tally a o = cond (takes_new_arrival a o) (suc tally) tally
 
 -- the order with the price and volume wanted, and the arrival that is due
-abbrev pub altered : ℕ → Alteration → Order → Order
-altered tally a o =
-    record o { price = a.price; volume = a.volume; arrival = cond (moves a o) (suc tally) o.arrival }
+abbrev pub altered_order : ℕ → Alteration → Order → Order
+altered_order tally a o =
+    record o { price = a.price; volume = a.volume; arrival = cond (takes_new_arrival a o) (suc tally) o.arrival }
 
 -- what the slips trade
 abbrev pub turnover : List Slip → ℕ
@@ -82,22 +82,22 @@ trade Buy n m price v = Trade n m price v
 trade Sell n m price v = Trade m n price v
 
 -- what a sweep leaves: its slips, the rest of the other side, and the volume left of the order that came
-pub record Swept : Type 0 where
+pub record Sweep : Type 0 where
   pub slips : List Slip
   pub rest : List Order
   pub left : ℕ
 
 -- with one slip before the others
-abbrev pub swept : Slip → Swept → Swept
-swept slip s = record s { slips = slip ∷ s.slips }
+abbrev pub slip_then : Slip → Sweep → Sweep
+slip_then slip s = record s { slips = slip ∷ s.slips }
 
 -- the order n of side d and price p trades v at most with the orders of the other side, the first first
-abbrev pub sweep : Direction → ℕ → ℕ → List Order → ℕ → Swept
+abbrev pub sweep : Direction → ℕ → ℕ → List Order → ℕ → Sweep
 sweep d n p [] v = record { slips = []; rest = []; left = v }
 sweep d n p (o ∷ os) v =
     cond (v == 0 || not (willing (opposite d) o.price p)) (record { slips = []; rest = o ∷ os; left = v })
     (cond (nat_le o.volume v)
-    (swept (trade d n o.number o.price o.volume) (sweep d n p os (v - o.volume)))
+    (slip_then (trade d n o.number o.price o.volume) (sweep d n p os (v - o.volume)))
     (record {
       slips = trade d n o.number o.price v ∷ [];
       rest = with_volume (o.volume - v) o ∷ os;
@@ -105,19 +105,19 @@ sweep d n p (o ∷ os) v =
     }))
 
 -- the table once the other side of d has traded
-abbrev pub dealt : Direction → List Order → Contents → Contents
-dealt d rest t = holding t (with_side (opposite d) rest t.book)
+abbrev pub with_rest : Direction → List Order → Contents → Contents
+with_rest d rest t = holding t (with_side (opposite d) rest t.book)
 
 -- what is left of an entering order is added
-abbrev pub placed : Order → ℕ → Contents → Contents
-placed e v t = cond (v == 0) t (added (with_volume v e) t)
+abbrev pub with_left : Order → ℕ → Contents → Contents
+with_left e v t = cond (v == 0) t (added (with_volume v e) t)
 
 -- the sweep of an order that enters over a table
-abbrev pub sweep_of : Order → Contents → Swept
+abbrev pub sweep_of : Order → Contents → Sweep
 sweep_of e t = sweep e.direction e.number e.price (listed (opposite e.direction) t) e.volume
 
 -- what comes of an order that enters: its slips, the volumes traded and held, and the table
-pub record Arrived : Type 0 where
+pub record Execution : Type 0 where
   pub slips : List Slip
   pub traded : ℕ
   pub held : ℕ
@@ -132,29 +132,29 @@ abbrev pub held_left : Order → ℕ → ℕ
 held_left e v = cond e.market 0 v
 
 abbrev pub stand_left : Order → ℕ → Contents → Contents
-stand_left e v t = cond e.market t (placed e v t)
+stand_left e v t = cond e.market t (with_left e v t)
 
 -- the order after its sweep
-abbrev pub settled : Order → Contents → Swept → Arrived
-settled e t s =
+abbrev pub after_sweep : Order → Contents → Sweep → Execution
+after_sweep e t s =
     record {
       slips = s.slips ++ lapse_left e s.left;
       traded = e.volume - s.left;
       held = held_left e s.left;
-      table = stand_left e s.left (dealt e.direction s.rest t);
+      table = stand_left e s.left (with_rest e.direction s.rest t);
     }
 
 -- e enters where orders trade
-abbrev pub arrived : Order → Contents → Arrived
-arrived e t = settled e t (sweep_of e t)
+abbrev pub entry_trading : Order → Contents → Execution
+entry_trading e t = after_sweep e t (sweep_of e t)
 
 -- e enters where nothing trades
-abbrev pub queued : Order → Contents → Arrived
-queued e t = record { slips = []; traded = 0; held = e.volume; table = added e t }
+abbrev pub entry_resting : Order → Contents → Execution
+entry_resting e t = record { slips = []; traded = 0; held = e.volume; table = added e t }
 
 -- it trades first, if it is to
-abbrev pub entered : Bool → Order → Contents → Arrived
-entered trades e t = cond trades (arrived e t) (queued e t)
+abbrev pub entry_of : Bool → Order → Contents → Execution
+entry_of trades e t = cond trades (entry_trading e t) (entry_resting e t)
 
 -- what a call makes: the day after it, what is answered but for the count of slips, and the slips
 pub record Made : Type 0 where
@@ -167,8 +167,8 @@ abbrev pub Reply : Type 0
 Reply = ℕ → ℕ → Told
 
 -- of a call by which an order entered, and after which so many arrivals are given
-abbrev pub let_in : Day → ℕ → Reply → Arrived → Made
-let_in day tally reply a =
+abbrev pub made_by_entry : Day → ℕ → Reply → Execution → Made
+made_by_entry day tally reply a =
     record {
       day = record day { tally = tally; table = a.table };
       told = reply a.traded a.held;
@@ -182,32 +182,32 @@ abbrev pub fixing_price : Terms → Book → Option ℕ
 fixing_price t b = option_map (λ c. c.price) (fixing_under t b)
 
 -- what is left when two sides have traded: their slips, and the rest of each side
-pub record Paired : Type 0 where
+pub record Pairing : Type 0 where
   pub slips : List Slip
   pub buys : List Order
   pub sells : List Order
 
 -- with one slip before the others
-abbrev pub paired : Slip → Paired → Paired
-paired slip s = record s { slips = slip ∷ s.slips }
+abbrev pub trade_then : Slip → Pairing → Pairing
+trade_then slip s = record s { slips = slip ∷ s.slips }
 
 -- the orders once the first has traded v
-abbrev pub less : ℕ → Order → List Order → List Order
-less v o os = cond (nat_le o.volume v) os (with_volume (o.volume - v) o ∷ os)
+abbrev pub with_first_less : ℕ → Order → List Order → List Order
+with_first_less v o os = cond (nat_le o.volume v) os (with_volume (o.volume - v) o ∷ os)
 
 -- while both are willing at p the first buy trades with the first sell, at most n times
-abbrev pub pair : ℕ → ℕ → List Order → List Order → Paired
+abbrev pub pair : ℕ → ℕ → List Order → List Order → Pairing
 pair p zero bs ss = record { slips = []; buys = bs; sells = ss }
 pair p (suc n) [] ss = record { slips = []; buys = []; sells = ss }
 pair p (suc n) (b ∷ bs) [] = record { slips = []; buys = b ∷ bs; sells = [] }
 pair p (suc n) (b ∷ bs) (s ∷ ss) =
     cond (willing Buy b.price p && willing Sell s.price p)
-    (paired (Trade b.number s.number p (min b.volume s.volume))
-    (pair p n (less (min b.volume s.volume) b bs) (less (min b.volume s.volume) s ss)))
+    (trade_then (Trade b.number s.number p (min b.volume s.volume))
+    (pair p n (with_first_less (min b.volume s.volume) b bs) (with_first_less (min b.volume s.volume) s ss)))
     (record { slips = []; buys = b ∷ bs; sells = s ∷ ss })
 
 -- each trade uses up an order, so as many times as there are orders is enough
-abbrev pub match_at : Option ℕ → List Order → List Order → Paired
+abbrev pub match_at : Option ℕ → List Order → List Order → Pairing
 match_at None bs ss = record { slips = []; buys = bs; sells = ss }
 match_at (Some p) bs ss = pair p (length bs + length ss) bs ss
 
@@ -217,45 +217,45 @@ going_slips goes slip [] = []
 going_slips goes slip (o ∷ os) = cond (goes o) (slip o ∷ going_slips goes slip os) (going_slips goes slip os)
 
 -- those that stay
-abbrev pub staying : (Order → Bool) → List Order → List Order
-staying goes [] = []
-staying goes (o ∷ os) = cond (goes o) (staying goes os) (o ∷ staying goes os)
+abbrev pub staying_orders : (Order → Bool) → List Order → List Order
+staying_orders goes [] = []
+staying_orders goes (o ∷ os) = cond (goes o) (staying_orders goes os) (o ∷ staying_orders goes os)
 
 -- the market orders of a list lapse
-abbrev pub lapse : Order → Slip
-lapse o = Lapse o.number o.volume
+abbrev pub lapse_of : Order → Slip
+lapse_of o = Lapse o.number o.volume
 
 abbrev pub lapses : List Order → List Slip
-lapses os = going_slips (λ o. o.market) lapse os
+lapses os = going_slips (λ o. o.market) lapse_of os
 
 -- the limit orders of a list
-abbrev pub limits : List Order → List Order
-limits os = staying (λ o. o.market) os
+abbrev pub limit_orders : List Order → List Order
+limit_orders os = staying_orders (λ o. o.market) os
 
 -- both sides trade at the fixing price
-abbrev pub fixing_trades : Terms → Book → Paired
+abbrev pub fixing_trades : Terms → Book → Pairing
 fixing_trades t b = match_at (fixing_price t b) b.buys b.sells
 
 -- the slips of a strike: the trades, and then what is left of market orders lapses, buys before sells
-abbrev pub strike_slips : Paired → List Slip
+abbrev pub strike_slips : Pairing → List Slip
 strike_slips m = m.slips ++ (lapses m.buys ++ lapses m.sells)
 
 -- what stands after it
-abbrev pub struck_book : Paired → Book
-struck_book m = book_of (limits m.buys) (limits m.sells)
+abbrev pub book_after_strike : Pairing → Book
+book_after_strike m = book_of (limit_orders m.buys) (limit_orders m.sells)
 
 -- the end of a strike: the stage is the next
-abbrev pub struck : Day → Option ℕ → Paired → Made
-struck day price m =
+abbrev pub strike_at : Day → Option ℕ → Pairing → Made
+strike_at day price m =
     record {
-      day = record day { stage = next day.stage; table = holding day.table (struck_book m) };
+      day = record day { stage = next day.stage; table = holding day.table (book_after_strike m) };
       told =
           Advanced (record { stage = next day.stage; price = price; traded = turnover (strike_slips m) });
       slips = strike_slips m;
     }
 
 abbrev pub strike : Terms → Day → Made
-strike t day = struck day (fixing_price t day.table.book) (fixing_trades t day.table.book)
+strike t day = strike_at day (fixing_price t day.table.book) (fixing_trades t day.table.book)
 
 -- The calls ------------------------------------------------------------------------------------------------------------
 
@@ -267,22 +267,22 @@ alter_reply traded held = Altered (record { traded = traded; held = held })
 
 -- an order enters, with the next arrival: in Open it trades first, and what is left of a limit order stands; in another
 -- stage it only stands
-abbrev pub let_enter : Day → Order → Made
-let_enter day o = let_in day o.number (enter_reply o.number) (entered (is_open day.stage) o day.table)
+abbrev pub enter_order : Day → Order → Made
+enter_order day o = made_by_entry day o.number (enter_reply o.number) (entry_of (is_open day.stage) o day.table)
 
 abbrev pub enter : Terms → Day → NewOrder → Made
-enter t day e = let_enter day (entering t (suc day.tally) e)
+enter t day e = enter_order day (order_of t (suc day.tally) e)
 
 -- an alter in Open to another price trades
 abbrev pub trades_again : Stage → Alteration → Order → Bool
 trades_again stage a o = is_open stage && not (a.price == o.price)
 
 -- the order leaves the table and comes back altered; in Open, at another price, as one that enters
-abbrev pub re_entered : Day → Alteration → Order → Arrived
-re_entered day a o = entered (trades_again day.stage a o) (altered day.tally a o) (removed o.number day.table)
+abbrev pub entry_again : Day → Alteration → Order → Execution
+entry_again day a o = entry_of (trades_again day.stage a o) (altered_order day.tally a o) (removed o.number day.table)
 
 abbrev pub alter : Day → Alteration → Order → Made
-alter day a o = let_in day (alter_tally day.tally a o) alter_reply (re_entered day a o)
+alter day a o = made_by_entry day (alter_tally day.tally a o) alter_reply (entry_again day a o)
 
 -- the order leaves the table, and its whole volume is answered
 abbrev pub withdraw : Day → Order → Made
@@ -313,25 +313,25 @@ of_named (Some o) make = Ok (make o)
 
 -- what a call makes, or the row that refuses it, with so many places in the run
 abbrev pub own_step : Terms → Day → Call → ℕ → Result Made ℕ
-own_step t day (Enter e) room = gated (enter_rows t day e room) (Ok (enter t day e))
+own_step t day (Enter e) room = past_rows (enter_rows t day e room) (Ok (enter t day e))
 own_step t day (Alter a) room =
-    gated (alter_rows t day a room (named a.number day)) (of_named (named a.number day) (alter day a))
+    past_rows (alter_rows t day a room (order_named a.number day)) (of_named (order_named a.number day) (alter day a))
 own_step t day (Withdraw w) room =
-    gated (withdraw_rows day w (named w.number day)) (of_named (named w.number day) (withdraw day))
-own_step t day Advance room = gated (advance_rows day room) (Ok (advance t day))
+    past_rows (withdraw_rows day w (order_named w.number day)) (of_named (order_named w.number day) (withdraw day))
+own_step t day Advance room = past_rows (advance_rows day room) (Ok (advance t day))
 
 -- what the rules make of a call: the number of its refusal, or the day after it, its answer and its slips
 pub data Outcome : Type 0 where
   refused_by : ℕ → Outcome
   done : Day → Answer Told → List Slip → Outcome
 
-abbrev pub done_by : Made → Outcome
-done_by m = done m.day (with_count m.told m.slips) m.slips
+abbrev pub outcome_of : Made → Outcome
+outcome_of m = done m.day (with_count m.told m.slips) m.slips
 
-abbrev pub came_of : Result Made ℕ → Outcome
-came_of (Err n) = refused_by n
-came_of (Ok m) = done_by m
+abbrev pub outcome_or_refusal : Result Made ℕ → Outcome
+outcome_or_refusal (Err n) = refused_by n
+outcome_or_refusal (Ok m) = outcome_of m
 
 -- a call on a day, with so many places in the run
 abbrev pub step : Terms → Day → Call → ℕ → Outcome
-step t day c room = came_of (own_step t day c room)
+step t day c room = outcome_or_refusal (own_step t day c room)

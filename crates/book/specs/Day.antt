@@ -11,5 +11,5 @@ pub record Day : Type 0 where
   pub table : Contents
 
 -- before the first call
-abbrev pub new : Capacity → Day
-new cap = record { stage = PreOpen; tally = 0; table = record { capacity = cap; book = empty } }
+abbrev pub new_day : Capacity → Day
+new_day cap = record { stage = PreOpen; tally = 0; table = record { capacity = cap; book = empty } }

@@ -31,16 +31,16 @@ last_in (Trade b s q v ∷ ss) = option_or (last_in ss) (Some q)
 last_in (Lapse n v ∷ ss) = last_in ss
 
 -- and of a journal, whose last line comes first
-abbrev pub last_traded : List Line → Option ℕ
-last_traded [] = None
-last_traded (x ∷ past) = option_or (last_in (slips_of x.came.result)) (last_traded past)
+abbrev pub last_trade_of : List Line → Option ℕ
+last_trade_of [] = None
+last_trade_of (x ∷ past) = option_or (last_in (slips_of x.came.result)) (last_trade_of past)
 
 -- when the best prices are looked at: right after the opening strike, and after an enter, alter or withdraw in Open
-abbrev pub looked : Stage → Call → Bool
-looked PreOpen Advance = true
-looked Open Advance = false
-looked Open c = true
-looked _ c = false
+abbrev pub looked_at : Stage → Call → Bool
+looked_at PreOpen Advance = true
+looked_at Open Advance = false
+looked_at Open c = true
+looked_at _ c = false
 
 -- the price of the best order of a side, which is the first listed
 abbrev pub best_listed : List Order → Option ℕ
@@ -61,13 +61,13 @@ stood_at d p look (accepted a slips) b = cond look (is_price p (best_listed (sid
 abbrev pub throughout : Terms → Direction → ℕ → List Line → Bool
 throughout t d p [] = true
 throughout t d p (x ∷ past) =
-    stood_at d p (looked (books t past).stage x.asked.call) x.came.result x.came.book && throughout t d p past
+    stood_at d p (looked_at (books t past).stage x.asked.call) x.came.result x.came.book && throughout t d p past
 
 -- the last trade; else the highest price, where the best buy stood there throughout; else the lowest, likewise for the
 -- best sell; else the reference price. A session that was ended before Closed keeps the reference price
 abbrev pub reference_at : Terms → Stage → List Line → ℕ
 reference_at t Closed past =
-    unwrap_or (last_traded past)
+    unwrap_or (last_trade_of past)
     (cond (throughout t Buy t.hi past) t.hi (cond (throughout t Sell t.lo past) t.lo t.reference))
 reference_at t _ past = t.reference
 

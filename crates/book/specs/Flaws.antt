@@ -26,7 +26,7 @@ use Rattle.rules.specs.Side.{better, opposite, willing}
 use Rattle.book.specs.Law.{Law, Engine, Came, Verdict, refused, accepted}
 use Rattle.book.specs.Stages.{is_open, next, strikes}
 use Rattle.book.specs.Day.{Day}
-use Rattle.book.specs.Calls.{market_price, entering, Outcome, refused_by, done, step, let_enter, enter_reply, alter_reply, trade, done_by, Made, Arrived, let_in, settled, queued, placed, dealt, Swept, sweep, sweep_of, fixing_price, Paired, match_at, lapses, limits, struck, struck_book, turnover}
+use Rattle.book.specs.Calls.{market_price, order_of, Outcome, refused_by, done, step, enter_order, enter_reply, alter_reply, trade, outcome_of, Made, Execution, made_by_entry, after_sweep, entry_resting, with_left, with_rest, Sweep, sweep, sweep_of, fixing_price, Pairing, match_at, lapses, limit_orders, strike_at, book_after_strike, turnover}
 use Rattle.book.specs.Model.{Step, engine, model}
 
 -- the law fails of this engine
@@ -96,7 +96,7 @@ Other = Terms → Day → Call → Option Made
 
 abbrev pub done_or : Option Made → Outcome → Outcome
 done_or None out = out
-done_or (Some m) out = done_by m
+done_or (Some m) out = outcome_of m
 
 -- the rules, but for what the other rule makes; that it never refuses
 abbrev pub but_for : Other → Step
@@ -130,7 +130,7 @@ fixing_by f =
     (λ t day.
     let b : Book = day.table.book in
     let price : Option ℕ = f t b in
-    struck day price (match_at price b.buys b.sells))
+    strike_at day price (match_at price b.buys b.sells))
 
 -- says no price without looking
 abbrev pub blind : Step
@@ -176,9 +176,9 @@ standing_prices =
 abbrev lapsed_first : Terms → Day → Made
 lapsed_first t day =
     let old : Book = day.table.book in
-    let b : Book = each_side limits old in
+    let b : Book = each_side limit_orders old in
     let price : Option ℕ = fixing_price t b in
-    let m : Paired = match_at price b.buys b.sells in
+    let m : Pairing = match_at price b.buys b.sells in
     let slips : List Slip = lapses old.buys ++ (lapses old.sells ++ m.slips) in
     record {
       day = record day { stage = next day.stage; table = holding day.table (book_of m.buys m.sells) };
@@ -198,10 +198,10 @@ abbrev last_lapses : Terms → Day → Made
 last_lapses t day =
     let b : Book = day.table.book in
     let price : Option ℕ = fixing_price t b in
-    let m : Paired = match_at price b.buys b.sells in
+    let m : Pairing = match_at price b.buys b.sells in
     let slips : List Slip = m.slips ++ backwards (lapses m.buys ++ lapses m.sells) [] in
     record {
-      day = record day { stage = next day.stage; table = holding day.table (struck_book m) };
+      day = record day { stage = next day.stage; table = holding day.table (book_after_strike m) };
       told = Advanced (record { stage = next day.stage; price = price; traded = turnover slips });
       slips = slips;
     }
@@ -222,22 +222,22 @@ lower_price =
     (λ t day.
     let b : Book = day.table.book in
     let price : Option ℕ = fixing_price t b in
-    let m : Paired = match_at price b.buys b.sells in
-    struck day price (record m { slips = sold_at b m.slips }))
+    let m : Pairing = match_at price b.buys b.sells in
+    strike_at day price (record m { slips = sold_at b m.slips }))
 
 -- Trading in Open -----------------------------------------------------------------------------------------------------
 
 -- the rules with another enter in Open
 abbrev pub dealing_by : (Terms → Day → Order → Made) → Step
-dealing_by f = but_for (of_enter (λ t day e. only_if (is_open day.stage) (f t day (entering t (suc day.tally) e))))
+dealing_by f = but_for (of_enter (λ t day e. only_if (is_open day.stage) (f t day (order_of t (suc day.tally) e))))
 
 -- an order that enters, and what comes of it
-abbrev enters : Day → Order → Arrived → Made
-enters day e a = let_in day e.number (enter_reply e.number) a
+abbrev enters : Day → Order → Execution → Made
+enters day e a = made_by_entry day e.number (enter_reply e.number) a
 
 -- in Open with this sweep
-abbrev arrive : Day → Order → Swept → Made
-arrive day e s = enters day e (settled e day.table s)
+abbrev arrive : Day → Order → Sweep → Made
+arrive day e s = enters day e (after_sweep e day.table s)
 
 -- an entering order pays whatever the first of the other side asks
 abbrev pub above_limit : Step
@@ -252,13 +252,13 @@ abbrev pub never_lapse : Step
 never_lapse =
     dealing_by
     (λ t day e.
-    let s : Swept = sweep_of e day.table in
+    let s : Sweep = sweep_of e day.table in
     enters day e
     (record {
       slips = s.slips;
       traded = e.volume - s.left;
       held = s.left;
-      table = placed e s.left (dealt e.direction s.rest day.table);
+      table = with_left e s.left (with_rest e.direction s.rest day.table);
     }))
 
 -- the slips, with the prices and the volumes of the trades changed
@@ -272,7 +272,7 @@ abbrev slips_by : (Order → List Slip → List Slip) → Step
 slips_by f =
     dealing_by
     (λ t day e.
-    let s : Swept = sweep_of e day.table in
+    let s : Sweep = sweep_of e day.table in
     arrive day e
     (record s { slips = f e s.slips }))
 
@@ -286,7 +286,7 @@ short_trade = slips_by (λ e ss. trades_by (λ q. q) (λ v. v - 1) ss)
 
 -- an order that enters in Open does not trade
 abbrev pub never_trades : Step
-never_trades = dealing_by (λ t day e. enters day e (queued e day.table))
+never_trades = dealing_by (λ t day e. enters day e (entry_resting e day.table))
 
 -- half of the first order before the rest, where an order of this price and volume fills it on side d
 abbrev half_of_filled : Direction → ℕ → ℕ → List Order → List Order → List Order
@@ -300,7 +300,7 @@ half_stays =
     dealing_by
     (λ t day e.
     let against : List Order = listed (opposite e.direction) day.table in
-    let s : Swept = sweep e.direction e.number e.price against e.volume in
+    let s : Sweep = sweep e.direction e.number e.price against e.volume in
     arrive day e
     (record s { rest = half_of_filled (opposite e.direction) e.price e.volume against s.rest }))
 
@@ -314,7 +314,7 @@ empty_trade =
     dealing_by
     (λ t day e.
     let against : List Order = listed (opposite e.direction) day.table in
-    let s : Swept = sweep e.direction e.number e.price against e.volume in
+    let s : Sweep = sweep e.direction e.number e.price against e.volume in
     arrive day e
     (record s { slips = of_nothing e.direction e.number against s.slips }))
 
@@ -340,8 +340,8 @@ exchanged_ends =
     but_for
     (of_enter
     (λ t day e.
-    let o : Order = entering t (suc day.tally) e in
-    only_if o.market (let_enter day (record o { price = market_price t (opposite e.direction) }))))
+    let o : Order = order_of t (suc day.tally) e in
+    only_if o.market (enter_order day (record o { price = market_price t (opposite e.direction) }))))
 
 -- before all at its price
 abbrev ahead : Direction → Order → List Order → List Order
@@ -354,7 +354,7 @@ last_first =
     but_for
     (of_enter
     (λ t day e.
-    let o : Order = entering t (suc day.tally) e in
+    let o : Order = order_of t (suc day.tally) e in
     let d : Direction = e.direction in
     let b : Book = day.table.book in
     only_if (not (is_open day.stage))
@@ -373,7 +373,7 @@ old_arrival =
     (of_alter
     (λ t day a.
     Some
-    (let_in day day.tally alter_reply
+    (made_by_entry day day.tally alter_reply
     (record { slips = []; traded = 0; held = a.volume; table = volume_set a.number a.volume day.table }))))
 
 -- Refusals ------------------------------------------------------------------------------------------------------------

@@ -2,7 +2,7 @@
 use Rattle.std.specs.Prelude.{List, [], ◌∷◌}
 use Rattle.rules.specs.declared.terms.Terms.{Terms}
 use Rattle.tables.specs.Meaning.{Capacity}
-use Rattle.book.specs.Ledger.{Ledger, fresh}
+use Rattle.book.specs.Ledger.{Ledger, new_ledger}
 use Rattle.book.specs.Law.{Try, Came, Engine, book_keeping, Lawful, Law}
 
 -- a try, and what came of it
@@ -12,7 +12,7 @@ pub record Line : Type 0 where
 
 -- the ledger of what came, the last line first
 abbrev pub books : Terms → List Line → Ledger
-books t [] = fresh
+books t [] = new_ledger
 books t (x ∷ past) = book_keeping t x.asked.call x.came.result (books t past)
 
 -- each line is lawful against the ledger of the lines before it

@@ -21,7 +21,7 @@ use Rattle.rules.specs.Fixing.{BestBySteps}
 use Rattle.tables.specs.Meaning.{Capacity}
 use Rattle.book.specs.Ledger.{
   Ledger,
-  fresh,
+  new_ledger,
   balance,
   Live,
   First,
@@ -63,24 +63,24 @@ Engine = Terms → Capacity → List Try → Try → Came
 -- The ledger of a history ------------------------------------------------------------------------------------------------
 
 -- of the answers, only the volume that withdraw names
-abbrev pub withdrawn : Told → ℕ
-withdrawn (Withdrawn w) = w.volume
-withdrawn _ = 0
+abbrev pub volume_withdrawn : Told → ℕ
+volume_withdrawn (Withdrawn w) = w.volume
+volume_withdrawn _ = 0
 
 -- what an accepted call feeds the ledger
-abbrev pub fed : Call → Answer Told → Feed
-fed (Enter e) a = entry e
-fed (Alter x) a = alteration x
-fed (Withdraw w) a = withdrawal w.number (withdrawn a.told)
-fed Advance a = progress
+abbrev pub feed_of : Call → Answer Told → Feed
+feed_of (Enter e) a = entry e
+feed_of (Alter x) a = alteration x
+feed_of (Withdraw w) a = withdrawal w.number (volume_withdrawn a.told)
+feed_of Advance a = progress
 
 -- an accepted call and then its slips; a refused one is not fed
 abbrev pub book_keeping : Terms → Call → Verdict → Ledger → Ledger
 book_keeping t c (refused n) L = L
-book_keeping t c (accepted a slips) L = post_all slips (feed t (fed c a) L)
+book_keeping t c (accepted a slips) L = post_all slips (feed t (feed_of c a) L)
 
 abbrev pub ledger : Engine → Terms → Capacity → List Try → Ledger
-ledger e t cap [] = fresh
+ledger e t cap [] = new_ledger
 ledger e t cap (x ∷ past) = book_keeping t x.call (e t cap past x).result (ledger e t cap past)
 
 -- Mode ---------------------------------------------------------------------------------------------------------------------
@@ -100,23 +100,23 @@ pub data Mode : Type 0 where
   -- anything else: nothing trades and nothing lapses
   quiet : Mode
 
-abbrev pub advancing : Stage → Option ℕ → Mode
-advancing PreOpen price = fixing_at price
-advancing Open price = quiet
-advancing PreClose price = fixing_at price
-advancing Closed price = quiet
+abbrev pub strike_mode : Stage → Option ℕ → Mode
+strike_mode PreOpen price = fixing_at price
+strike_mode Open price = quiet
+strike_mode PreClose price = fixing_at price
+strike_mode Closed price = quiet
 
-abbrev pub dealing : Stage → Mode
-dealing PreOpen = quiet
-dealing Open = continuous
-dealing PreClose = quiet
-dealing Closed = quiet
+abbrev pub entry_mode : Stage → Mode
+entry_mode PreOpen = quiet
+entry_mode Open = continuous
+entry_mode PreClose = quiet
+entry_mode Closed = quiet
 
 -- how an accepted call of a stage trades, by the price that it answered
 abbrev pub mode : Stage → Call → Option ℕ → Mode
-mode stage (Enter e) price = dealing stage
-mode stage (Alter x) price = dealing stage
-mode stage Advance price = advancing stage price
+mode stage (Enter e) price = entry_mode stage
+mode stage (Alter x) price = entry_mode stage
+mode stage Advance price = strike_mode stage price
 mode stage _ price = quiet
 
 -- Priority -----------------------------------------------------------------------------------------------------------------
@@ -206,10 +206,10 @@ FixingRight t L quiet slips = Unit {0}
 -- True answers ---------------------------------------------------------------------------------------------------------------
 
 -- only a fixing has a price
-abbrev pub fixed_at : Mode → Option ℕ
-fixed_at (fixing_at price) = price
-fixed_at continuous = None
-fixed_at quiet = None
+abbrev pub price_of_mode : Mode → Option ℕ
+price_of_mode (fixing_at price) = price
+price_of_mode continuous = None
+price_of_mode quiet = None
 
 -- what is due to be told, with L the ledger before the call and M that after its slips
 abbrev pub due_told : Call → Mode → Ledger → List Slip → Ledger → Told
@@ -224,27 +224,27 @@ due_told (Alter x) m L slips M =
     Altered (record { traded = traded (own slips); held = balance (M.accounts x.number) })
 due_told (Withdraw w) m L slips M = Withdrawn (record { volume = balance (L.accounts w.number) })
 due_told Advance m L slips M =
-    Advanced (record { stage = following L.stage; price = fixed_at m; traded = traded (own slips) })
+    Advanced (record { stage = following L.stage; price = price_of_mode m; traded = traded (own slips) })
 
 -- the answer that is due counts all slips
-abbrev pub due : Call → Mode → Ledger → List Slip → Ledger → Answer Told
-due c m L slips M = record { told = due_told c m L slips M; slips = length slips }
+abbrev pub due_answer : Call → Mode → Ledger → List Slip → Ledger → Answer Told
+due_answer c m L slips M = record { told = due_told c m L slips M; slips = length slips }
 
 -- Faithful lists and gap -------------------------------------------------------------------------------------------------------
 
 -- trading goes on, or is over
-abbrev pub Settled : Stage → Type 0
-Settled PreOpen = ⊥
-Settled Open = Unit {0}
-Settled PreClose = ⊥
-Settled Closed = Unit {0}
+abbrev pub IsSettled : Stage → Type 0
+IsSettled PreOpen = ⊥
+IsSettled Open = Unit {0}
+IsSettled PreClose = ⊥
+IsSettled Closed = Unit {0}
 
 -- each side lists exactly its live orders, in rank order, with the balance as volume; in Open and Closed nothing that
 -- is live trades, and no market order is live
 pub record Shown (L : Ledger) (b : Book) : Type 0 where
   pub sides : (d : Direction) → Lists d (Live d L) (side d b)
-  pub gap : Settled L.stage → Uncrossed L
-  pub limit : Settled L.stage → (d : Direction) (o : Order) → Live d L o → o.market ≡ false
+  pub gap : IsSettled L.stage → Uncrossed L
+  pub limit : IsSettled L.stage → (d : Direction) (o : Order) → Live d L o → o.market ≡ false
 
 -- The law ------------------------------------------------------------------------------------------------------------------------
 
@@ -252,14 +252,14 @@ pub record Shown (L : Ledger) (b : Book) : Type 0 where
 pub record Upheld (t : Terms) (L : Ledger) (c : Call) (a : Answer Told) (m : Mode) (M : Ledger) (slips : List Slip) (b : Book) : Type 0 where
   pub each : Along (SlipRight m) M slips
   pub fixing : FixingRight t L m slips
-  pub answer : a ≡ due c m L slips (post_all slips M)
+  pub answer : a ≡ due_answer c m L slips (post_all slips M)
   pub shown : Shown (post_all slips M) b
 
 -- what comes of a call, with L the ledger before it: a refused call leaves the lists as the ledger has them
 abbrev pub Lawful : Terms → Ledger → Call → Verdict → Book → Type 0
 Lawful t L c (refused n) b = Shown L b
 Lawful t L c (accepted a slips) b =
-    Upheld t L c a (mode L.stage c (price_of a)) (feed t (fed c a) L) slips b
+    Upheld t L c a (mode L.stage c (price_of a)) (feed t (feed_of c a) L) slips b
 
 -- after whatever history, whatever is tried next is lawful
 abbrev pub Law : Engine → Type 0

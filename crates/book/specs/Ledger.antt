@@ -25,8 +25,8 @@ pub record Ledger : Type 0 where
   pub accounts : Accounts
 
 -- before the first call
-abbrev pub fresh : Ledger
-fresh = record { stage = PreOpen; tally = 0; accounts = λ _. None }
+abbrev pub new_ledger : Ledger
+new_ledger = record { stage = PreOpen; tally = 0; accounts = λ _. None }
 
 -- one part set, the others as they are
 abbrev pub at_stage : Stage → Ledger → Ledger

@@ -12,12 +12,12 @@ use Rattle.book.specs.declared.call.Call.{Call}
 use Rattle.book.specs.declared.call.Call.TheVariants.{Advance}
 use Rattle.rules.specs.declared.reference.DayRecord.{DayRecord}
 use Rattle.tables.specs.Meaning.{Capacity}
-use Rattle.book.specs.Model.{moved}
+use Rattle.book.specs.Model.{day_after}
 use Rattle.book.specs.Calls.{Outcome, refused_by, done}
-use Rattle.book.specs.Day.{Day, new}
+use Rattle.book.specs.Day.{Day, new_day}
 
-abbrev pub unmarked : DayRecord
-unmarked = record { last_trade = None; buy_at_high = false; sell_at_low = false }
+abbrev pub no_marks : DayRecord
+no_marks = record { last_trade = None; buy_at_high = false; sell_at_low = false }
 
 -- the price of the last trade
 abbrev pub last_price : Option ℕ → List Slip → Option ℕ
@@ -48,14 +48,14 @@ marks_after t stage c m slips b =
     }
 
 -- a refused call leaves them as they were
-abbrev pub marked : Terms → Stage → Call → DayRecord → Outcome → DayRecord
-marked t stage c m (refused_by n) = m
-marked t stage c m (done day a slips) = marks_after t stage c m slips day.table.book
+abbrev pub marks_after_outcome : Terms → Stage → Call → DayRecord → Outcome → DayRecord
+marks_after_outcome t stage c m (refused_by n) = m
+marks_after_outcome t stage c m (done day a slips) = marks_after t stage c m slips day.table.book
 
 -- a session that was ended before Closed leaves nothing
-abbrev pub left_by : Stage → DayRecord → Option DayRecord
-left_by Closed m = Some m
-left_by _ m = None
+abbrev pub record_left : Stage → DayRecord → Option DayRecord
+record_left Closed m = Some m
+record_left _ m = None
 
 -- a session: its day, and the marks of it
 pub record Session : Type 0 where
@@ -64,11 +64,11 @@ pub record Session : Type 0 where
 
 -- the reference price that it leaves
 abbrev pub reference_left : Terms → Session → ℕ
-reference_left t s = next_reference_under t (left_by s.day.stage s.marks)
+reference_left t s = next_reference_under t (record_left s.day.stage s.marks)
 
-abbrev pub begun : Capacity → Session
-begun cap = record { day = new cap; marks = unmarked }
+abbrev pub new_session : Capacity → Session
+new_session cap = record { day = new_day cap; marks = no_marks }
 
 -- the session after a call with this outcome
-abbrev pub worked : Terms → Call → Session → Outcome → Session
-worked t c s out = record { day = moved s.day out; marks = marked t s.day.stage c s.marks out }
+abbrev pub session_after : Terms → Call → Session → Outcome → Session
+session_after t c s out = record { day = day_after s.day out; marks = marks_after_outcome t s.day.stage c s.marks out }

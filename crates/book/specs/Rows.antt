@@ -27,8 +27,8 @@ past_row None r = r
 past_row (Some n) r = Err n
 
 -- past all rows
-abbrev pub gated : {X : Type 0} → List (Option ℕ) → Result X ℕ → Result X ℕ
-gated rows r = past_row (first_row rows) r
+abbrev pub past_rows : {X : Type 0} → List (Option ℕ) → Result X ℕ → Result X ℕ
+past_rows rows r = past_row (first_row rows) r
 
 -- Conditions --------------------------------------------------------------------------------------------------------
 
@@ -38,8 +38,8 @@ beyond_band t None = false
 beyond_band t (Some p) = not (within t.lo t.hi p)
 
 -- all arrivals of a day are given
-abbrev pub all_given : ℕ → Bool
-all_given tally = nat_le 1000000 tally
+abbrev pub all_arrivals_given : ℕ → Bool
+all_arrivals_given tally = nat_le 1000000 tally
 
 -- a side has a place left
 abbrev pub has_place : Direction → Contents → Bool
@@ -50,21 +50,21 @@ abbrev pub short_of_trades : Stage → Direction → Contents → ℕ → Bool
 short_of_trades stage d c room = is_open stage && nat_lt room (length (listed (opposite d) c) + 1)
 
 -- how many orders a table holds
-abbrev pub orders_of : Contents → ℕ
-orders_of c = length c.book.buys + length c.book.sells
+abbrev pub order_count : Contents → ℕ
+order_count c = length c.book.buys + length c.book.sells
 
 -- where there is a strike, the run has fewer places than one for each order held
 abbrev pub short_of_strike : Stage → Contents → ℕ → Bool
-short_of_strike stage c room = strikes stage && nat_lt room (orders_of c)
+short_of_strike stage c room = strikes stage && nat_lt room (order_count c)
 
 -- the order with a number, if it is held
-abbrev pub named : ℕ → Day → Option Order
-named n day = lookup n day.table.book
+abbrev pub order_named : ℕ → Day → Option Order
+order_named n day = lookup n day.table.book
 
 -- so of the order that is held, if one is
-abbrev pub so_of : Option Order → (Order → Bool) → Bool
-so_of None holds = false
-so_of (Some o) holds = holds o
+abbrev pub holds_of : Option Order → (Order → Bool) → Bool
+holds_of None holds = false
+holds_of (Some o) holds = holds o
 
 -- The rows of each call ---------------------------------------------------------------------------------------------
 
@@ -74,7 +74,7 @@ enter_rows t day e room =
     ∷ row (not (is_member e.member)) 4
     ∷ row (not (is_volume t.block e.volume)) 5
     ∷ row (beyond_band t e.limit) 6
-    ∷ row (all_given day.tally) 10
+    ∷ row (all_arrivals_given day.tally) 10
     ∷ row (not (has_place e.direction day.table)) 11
     ∷ row (short_of_trades day.stage e.direction day.table room) 12
     ∷ []
@@ -87,10 +87,10 @@ alter_rows t day a room held =
     ∷ row (not (is_volume t.block a.volume)) 5
     ∷ row (beyond_band t (Some a.price)) 6
     ∷ row (not (is_some held)) 7
-    ∷ row (so_of held (λ o. not (a.member == o.member))) 8
-    ∷ row (so_of held (λ o. o.market)) 9
-    ∷ row (all_given day.tally) 10
-    ∷ row (so_of held (λ o. short_of_trades day.stage o.direction day.table room)) 12
+    ∷ row (holds_of held (λ o. not (a.member == o.member))) 8
+    ∷ row (holds_of held (λ o. o.market)) 9
+    ∷ row (all_arrivals_given day.tally) 10
+    ∷ row (holds_of held (λ o. short_of_trades day.stage o.direction day.table room)) 12
     ∷ []
 
 -- and a withdraw
@@ -99,7 +99,7 @@ withdraw_rows day w held =
     row (is_closed day.stage) 3
     ∷ row (not (is_member w.member)) 4
     ∷ row (not (is_some held)) 7
-    ∷ row (so_of held (λ o. not (w.member == o.member))) 8
+    ∷ row (holds_of held (λ o. not (w.member == o.member))) 8
     ∷ []
 
 abbrev pub advance_rows : Day → ℕ → List (Option ℕ)

@@ -16,7 +16,7 @@ use Rattle.book.specs.declared.stage.Stage.{Stage}
 use Rattle.book.specs.declared.stage.Stage.TheVariants.{Open, PreClose, Closed}
 use Rattle.book.specs.Law.{Try, Verdict, refused, accepted}
 use Rattle.book.specs.Leads.{outcome}
-use Rattle.book.specs.Marks.{Session, begun, worked, reference_left}
+use Rattle.book.specs.Marks.{Session, new_session, session_after, reference_left}
 use Rattle.book.specs.Model.{result}
 
 -- reference price 1000, block 10, and so the band 700 to 1300; the last six are the facts that every terms has
@@ -47,23 +47,23 @@ with_run c = record { call = c; room = 512 }
 abbrev pub new_order : ℕ → Direction → Option ℕ → ℕ → NewOrder
 new_order member d limit volume = record { member = member; direction = d; limit = limit; volume = volume }
 
-abbrev pub enter_of : ℕ → Direction → Option ℕ → ℕ → Call
-enter_of member d limit volume = Enter (new_order member d limit volume)
+abbrev pub enter_call : ℕ → Direction → Option ℕ → ℕ → Call
+enter_call member d limit volume = Enter (new_order member d limit volume)
 
-abbrev pub alter_of : ℕ → ℕ → ℕ → ℕ → Call
-alter_of member n price volume = Alter (record { member = member; number = n; price = price; volume = volume })
+abbrev pub alter_call : ℕ → ℕ → ℕ → ℕ → Call
+alter_call member n price volume = Alter (record { member = member; number = n; price = price; volume = volume })
 
-abbrev pub withdraw_of : ℕ → ℕ → Call
-withdraw_of member n = Withdraw (record { member = member; number = n })
+abbrev pub withdraw_call : ℕ → ℕ → Call
+withdraw_call member n = Withdraw (record { member = member; number = n })
 
 -- the day's calls, the first first
 abbrev pub calls : List Call
 calls =
-    enter_of 1 Buy (Some 1050) 40
-    ∷ enter_of 2 Sell (Some 990) 30
-    ∷ enter_of 3 Buy (Some 1400) 10
+    enter_call 1 Buy (Some 1050) 40
+    ∷ enter_call 2 Sell (Some 990) 30
+    ∷ enter_call 3 Buy (Some 1400) 10
     ∷ Advance
-    ∷ enter_of 4 Sell None 20
+    ∷ enter_call 4 Sell None 20
     ∷ Advance
     ∷ Advance
     ∷ []
@@ -71,12 +71,12 @@ calls =
 -- what comes of calls from a session on
 abbrev pub results : Terms → Session → List Call → List Verdict
 results t s [] = []
-results t s (c ∷ cs) = result (outcome t s.day (with_run c)) ∷ results t (worked t c s (outcome t s.day (with_run c))) cs
+results t s (c ∷ cs) = result (outcome t s.day (with_run c)) ∷ results t (session_after t c s (outcome t s.day (with_run c))) cs
 
 -- the session after calls
-abbrev pub all_worked : Terms → Session → List Call → Session
-all_worked t s [] = s
-all_worked t s (c ∷ cs) = all_worked t (worked t c s (outcome t s.day (with_run c))) cs
+abbrev pub session_after_calls : Terms → Session → List Call → Session
+session_after_calls t s [] = s
+session_after_calls t s (c ∷ cs) = session_after_calls t (session_after t c s (outcome t s.day (with_run c))) cs
 
 -- answers from their values, the count of slips last
 abbrev entered_as : ℕ → ℕ → ℕ → ℕ → Answer Told
@@ -99,8 +99,8 @@ expected =
     ∷ []
 
 -- the next reference price that a day of these calls leaves
-abbrev pub left_after : List Call → ℕ
-left_after cs = reference_left terms_of_the_day (all_worked terms_of_the_day (begun places) cs)
+abbrev pub reference_after : List Call → ℕ
+reference_after cs = reference_left terms_of_the_day (session_after_calls terms_of_the_day (new_session places) cs)
 
 -- the three calls that end a day
 abbrev pub advances : List Call
@@ -109,10 +109,10 @@ advances = Advance ∷ Advance ∷ Advance ∷ []
 -- the day above; then days without a trade: an order at the end of the band that stands from the opening on, one that is
 -- 10 off it, one that comes only after the opening, and one that leaves in Open
 pub record WorkedDay : Type 0 where
-  pub answers : results terms_of_the_day (begun places) calls ≡ expected
-  pub reference : left_after calls ≡ 1050
-  pub buy_at_high : left_after (enter_of 1 Buy (Some 1300) 40 ∷ advances) ≡ 1300
-  pub sell_at_low : left_after (enter_of 1 Sell (Some 700) 40 ∷ advances) ≡ 700
-  pub buy_below : left_after (enter_of 1 Buy (Some 1290) 40 ∷ advances) ≡ 1000
-  pub buy_late : left_after (Advance ∷ enter_of 1 Buy (Some 1300) 40 ∷ Advance ∷ Advance ∷ []) ≡ 1000
-  pub buy_gone : left_after (enter_of 1 Buy (Some 1300) 40 ∷ Advance ∷ withdraw_of 1 1 ∷ Advance ∷ Advance ∷ []) ≡ 1000
+  pub answers : results terms_of_the_day (new_session places) calls ≡ expected
+  pub reference : reference_after calls ≡ 1050
+  pub buy_at_high : reference_after (enter_call 1 Buy (Some 1300) 40 ∷ advances) ≡ 1300
+  pub sell_at_low : reference_after (enter_call 1 Sell (Some 700) 40 ∷ advances) ≡ 700
+  pub buy_below : reference_after (enter_call 1 Buy (Some 1290) 40 ∷ advances) ≡ 1000
+  pub buy_late : reference_after (Advance ∷ enter_call 1 Buy (Some 1300) 40 ∷ Advance ∷ Advance ∷ []) ≡ 1000
+  pub buy_gone : reference_after (enter_call 1 Buy (Some 1300) 40 ∷ Advance ∷ withdraw_call 1 1 ∷ Advance ∷ Advance ∷ []) ≡ 1000

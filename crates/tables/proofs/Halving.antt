@@ -15,7 +15,7 @@ use Rattle.tables.specs.declared.place.Place.{Place}
 use Rattle.tables.specs.Both.{of, with_other}
 use Rattle.tables.specs.Listing.{insert, with_volume}
 use Rattle.tables.specs.Meaning.{ordered, Capacity, Contents, Sound, listed, holding, book_of, with_side, put_in, takes}
-use Rattle.tables.specs.Run.{half, start, room, stored, Kept}
+use Rattle.tables.specs.Run.{half, start, run_capacity, stored, Kept}
 use Rattle.tables.specs.Stored.{with_volume_at}
 use Rattle.tables.proofs.Keeps.{sound_inserted, sound_removed_at, sound_volume_set_at}
 use Rattle.tables.proofs.Stands.{taken, ordered_same}
@@ -92,7 +92,7 @@ module _ (run : List Order) (n : Both ℕ) (l : Kept run n) where
           ∙ ap (book_of (take n.buys run)) (take-append-le count r rest (omega (arith, long)))
 
       pub edited : stored (put_mid s k run r) (with_other d count n) ≡ holding t (with_side d (take count r) t.book)
-      edited = with_parts _ _ _ _ (ap room same_length) (go d p)
+      edited = with_parts _ _ _ _ (ap run_capacity same_length) (go d p)
         where
           same_half : half (put_mid s k run r) ≡ half run
           same_half = ap (λ m. m / 2) same_length
@@ -111,7 +111,7 @@ module _ (run : List Order) (n : Both ℕ) (l : Kept run n) where
   -- an order written over the one at a place
   module _ (d : Direction) (s i : ℕ) (p : s ≡ start d run) (below : i < of d n) (o : Order) where
     written : stored (set run (s + i) o) n ≡ holding t (with_side d (set (listed d t) i o) t.book)
-    written = with_parts _ _ _ _ (ap room (length-set run (s + i) o)) (ap (λ m. book_of (take n.buys (set run (s + i) o)) (take n.sells (drop m (set run (s + i) o)))) same_half ∙ go d p below)
+    written = with_parts _ _ _ _ (ap run_capacity (length-set run (s + i) o)) (ap (λ m. book_of (take n.buys (set run (s + i) o)) (take n.sells (drop m (set run (s + i) o)))) same_half ∙ go d p below)
       where
         same_half : half (set run (s + i) o) ≡ half run
         same_half = ap (λ m. m / 2) (length-set run (s + i) o)

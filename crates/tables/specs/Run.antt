@@ -16,16 +16,16 @@ start Buy run = 0
 start Sell run = half run
 
 -- what a queue over a run of n places has room for: half of them, and at most 512
-abbrev pub room : ℕ → Capacity
-room n = record { places = min 512 (n / 2) }
+abbrev pub run_capacity : ℕ → Capacity
+run_capacity n = record { places = min 512 (n / 2) }
 
 -- the first so many orders of each half
 abbrev pub stored : List Order → Both ℕ → Contents
-stored run n = record { capacity = room (length run); book = book_of (take n.buys run) (take n.sells (drop (half run) run)) }
+stored run n = record { capacity = run_capacity (length run); book = book_of (take n.buys run) (take n.sells (drop (half run) run)) }
 
 -- an empty queue over a run of n places
 abbrev pub empty_in : ℕ → Contents
-empty_in n = record { capacity = room n; book = empty }
+empty_in n = record { capacity = run_capacity n; book = empty }
 
 -- what a queue keeps: no side reaches past its half, and the orders are a table's and in rank order as they stand
 pub record Kept (run : List Order) (n : Both ℕ) : Type 0 where
