@@ -87,7 +87,7 @@ pub record Sweep : Type 0 where
   pub rest : List Order
   pub left : ℕ
 
--- with one slip before the others
+-- one slip, and then what the sweep leaves
 abbrev pub slip_then : Slip → Sweep → Sweep
 slip_then slip s = record s { slips = slip ∷ s.slips }
 
@@ -123,18 +123,19 @@ pub record Execution : Type 0 where
   pub held : ℕ
   pub table : Contents
 
--- of what is left of an order, a market order's lapses
+-- what is left of a market order lapses
 abbrev pub lapse_left : Order → ℕ → List Slip
 lapse_left e v = cond (e.market && not (v == 0)) (Lapse e.number v ∷ []) []
 
--- and a limit order's stands
+-- of a market order nothing is held, of a limit order all that is left
 abbrev pub held_left : Order → ℕ → ℕ
 held_left e v = cond e.market 0 v
 
+-- a limit order stands with what is left of it, a market order does not
 abbrev pub stand_left : Order → ℕ → Contents → Contents
 stand_left e v t = cond e.market t (with_left e v t)
 
--- the order after its sweep
+-- what comes of an order, once its sweep has left this
 abbrev pub after_sweep : Order → Contents → Sweep → Execution
 after_sweep e t s =
     record {
@@ -152,7 +153,7 @@ entry_trading e t = after_sweep e t (sweep_of e t)
 abbrev pub entry_resting : Order → Contents → Execution
 entry_resting e t = record { slips = []; traded = 0; held = e.volume; table = added e t }
 
--- it trades first, if it is to
+-- e enters, and trades first if it is to
 abbrev pub entry_of : Bool → Order → Contents → Execution
 entry_of trades e t = cond trades (entry_trading e t) (entry_resting e t)
 
@@ -166,7 +167,7 @@ pub record Made : Type 0 where
 abbrev pub Reply : Type 0
 Reply = ℕ → ℕ → Told
 
--- of a call by which an order entered, and after which so many arrivals are given
+-- what a call makes by which an order entered, where so many arrivals are given after it
 abbrev pub made_by_entry : Day → ℕ → Reply → Execution → Made
 made_by_entry day tally reply a =
     record {
@@ -187,7 +188,7 @@ pub record Pairing : Type 0 where
   pub buys : List Order
   pub sells : List Order
 
--- with one slip before the others
+-- one trade, and then what the pairing leaves
 abbrev pub trade_then : Slip → Pairing → Pairing
 trade_then slip s = record s { slips = slip ∷ s.slips }
 
@@ -216,15 +217,16 @@ abbrev pub going_slips : (Order → Bool) → (Order → Slip) → List Order �
 going_slips goes slip [] = []
 going_slips goes slip (o ∷ os) = cond (goes o) (slip o ∷ going_slips goes slip os) (going_slips goes slip os)
 
--- those that stay
+-- and those that stay
 abbrev pub staying_orders : (Order → Bool) → List Order → List Order
 staying_orders goes [] = []
 staying_orders goes (o ∷ os) = cond (goes o) (staying_orders goes os) (o ∷ staying_orders goes os)
 
--- the market orders of a list lapse
+-- the slip by which an order lapses
 abbrev pub lapse_of : Order → Slip
 lapse_of o = Lapse o.number o.volume
 
+-- the slips by which the market orders of a list lapse
 abbrev pub lapses : List Order → List Slip
 lapses os = going_slips (λ o. o.market) lapse_of os
 
@@ -244,7 +246,7 @@ strike_slips m = m.slips ++ (lapses m.buys ++ lapses m.sells)
 abbrev pub book_after_strike : Pairing → Book
 book_after_strike m = book_of (limit_orders m.buys) (limit_orders m.sells)
 
--- the end of a strike: the stage is the next
+-- a strike at this price, by which the two sides have traded so
 abbrev pub strike_at : Day → Option ℕ → Pairing → Made
 strike_at day price m =
     record {
@@ -254,11 +256,13 @@ strike_at day price m =
       slips = strike_slips m;
     }
 
+-- the strike at the fixing price of what is held
 abbrev pub strike : Terms → Day → Made
 strike t day = strike_at day (fixing_price t day.table.book) (fixing_trades t day.table.book)
 
 -- The calls ------------------------------------------------------------------------------------------------------------
 
+-- what an enter and an alter tell
 abbrev pub enter_reply : ℕ → Reply
 enter_reply n traded held = Entered (record { number = n; traded = traded; held = held })
 
@@ -270,6 +274,7 @@ alter_reply traded held = Altered (record { traded = traded; held = held })
 abbrev pub enter_order : Day → Order → Made
 enter_order day o = made_by_entry day o.number (enter_reply o.number) (entry_of (is_open day.stage) o day.table)
 
+-- what an enter makes
 abbrev pub enter : Terms → Day → NewOrder → Made
 enter t day e = enter_order day (order_of t (suc day.tally) e)
 
@@ -281,6 +286,7 @@ trades_again stage a o = is_open stage && not (a.price == o.price)
 abbrev pub entry_again : Day → Alteration → Order → Execution
 entry_again day a o = entry_of (trades_again day.stage a o) (altered_order day.tally a o) (removed o.number day.table)
 
+-- what an alter of the order o makes
 abbrev pub alter : Day → Alteration → Order → Made
 alter day a o = made_by_entry day (alter_tally day.tally a o) alter_reply (entry_again day a o)
 
@@ -325,9 +331,11 @@ pub data Outcome : Type 0 where
   refused_by : ℕ → Outcome
   done : Day → Answer Told → List Slip → Outcome
 
+-- what is made, with the count of its slips
 abbrev pub outcome_of : Made → Outcome
 outcome_of m = done m.day (with_count m.told m.slips) m.slips
 
+-- what is made, or the number of the refusal
 abbrev pub outcome_or_refusal : Result Made ℕ → Outcome
 outcome_or_refusal (Err n) = refused_by n
 outcome_or_refusal (Ok m) = outcome_of m

@@ -85,6 +85,7 @@ ledger e t cap (x ∷ past) = book_keeping t x.call (e t cap past x).result (led
 
 -- Mode ---------------------------------------------------------------------------------------------------------------------
 
+-- the price that an advance tells
 abbrev pub price_told : Told → Option ℕ
 price_told (Advanced x) = x.price
 price_told _ = None
@@ -152,7 +153,7 @@ MayLapse (fixing_at price) L o = Unit {0}
 MayLapse continuous L o = Entering L o
 MayLapse quiet L o = ⊥
 
--- of the live orders that are P, o of side d is the first to go: buys before sells, each side in rank order
+-- of the live orders of which P holds, o of side d is the first to go: buys before sells, each side in rank order
 pub record InTurn (P : Order → Type 0) (d : Direction) (L : Ledger) (o : Order) : Type 0 where
   pub ranks : (x : Order) → Live d L x → P x → (x ≡ o) ⊎ Before d o x
   pub buys_first : d ≡ Sell → (x : Order) → Live Buy L x → P x → ⊥

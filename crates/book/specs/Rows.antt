@@ -16,17 +16,17 @@ use Rattle.book.specs.declared.stage.Stage.{Stage}
 use Rattle.book.specs.Day.{Day}
 use Rattle.book.specs.Stages.{is_closed, is_open, strikes}
 
--- read from the top
+-- the number of the first row that refuses, if one does
 abbrev pub first_row : List (Option ℕ) → Option ℕ
 first_row [] = None
 first_row (r ∷ rs) = option_or r (first_row rs)
 
--- refused with the row's number, else what follows
+-- what follows, unless the row refuses
 abbrev pub past_row : {X : Type 0} → Option ℕ → Result X ℕ → Result X ℕ
 past_row None r = r
 past_row (Some n) r = Err n
 
--- past all rows
+-- what follows, unless a row refuses; the first that does gives its number
 abbrev pub past_rows : {X : Type 0} → List (Option ℕ) → Result X ℕ → Result X ℕ
 past_rows rows r = past_row (first_row rows) r
 
@@ -61,13 +61,14 @@ short_of_strike stage c room = strikes stage && nat_lt room (order_count c)
 abbrev pub order_named : ℕ → Day → Option Order
 order_named n day = lookup n day.table.book
 
--- so of the order that is held, if one is
+-- the test holds of the order, if there is one
 abbrev pub holds_of : Option Order → (Order → Bool) → Bool
 holds_of None holds = false
 holds_of (Some o) holds = holds o
 
 -- The rows of each call ---------------------------------------------------------------------------------------------
 
+-- the last argument is how many places the call's run has
 abbrev pub enter_rows : Terms → Day → NewOrder → ℕ → List (Option ℕ)
 enter_rows t day e room =
     row (is_closed day.stage) 3
@@ -79,7 +80,7 @@ enter_rows t day e room =
     ∷ row (short_of_trades day.stage e.direction day.table room) 12
     ∷ []
 
--- an alter that names the order `held`, if it is held
+-- `held` is the order that the alter names, if it is held
 abbrev pub alter_rows : Terms → Day → Alteration → ℕ → Option Order → List (Option ℕ)
 alter_rows t day a room held =
     row (is_closed day.stage) 3
@@ -93,7 +94,7 @@ alter_rows t day a room held =
     ∷ row (holds_of held (λ o. short_of_trades day.stage o.direction day.table room)) 12
     ∷ []
 
--- and a withdraw
+-- and that the withdraw names
 abbrev pub withdraw_rows : Day → Withdrawal → Option Order → List (Option ℕ)
 withdraw_rows day w held =
     row (is_closed day.stage) 3

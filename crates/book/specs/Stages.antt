@@ -3,16 +3,19 @@ use Rattle.std.specs.Prelude.{ℕ, Bool, true, false}
 use Rattle.book.specs.declared.stage.Stage.{Stage}
 use Rattle.book.specs.declared.stage.Stage.TheVariants.{PreOpen, Open, PreClose, Closed}
 
+-- Closed stays Closed
 abbrev pub next : Stage → Stage
 next PreOpen = Open
 next Open = PreClose
 next PreClose = Closed
 next Closed = Closed
 
+-- no call is taken any more
 abbrev pub is_closed : Stage → Bool
 is_closed Closed = true
 is_closed _ = false
 
+-- orders that enter trade in Open alone
 abbrev pub is_open : Stage → Bool
 is_open Open = true
 is_open _ = false
