@@ -1,7 +1,7 @@
 // Files worked over tables, and what comes of them against the texts that they are to give.
 ghost use Rattle.std.specs.Prelude.{◌≡◌, IfOk};
 ghost use Rattle.std.specs.String.{string_bytes};
-ghost use Rattle.tables.specs.Run.{room as room_of};
+ghost use Rattle.tables.specs.Run.{run_capacity as room_of};
 ghost use Rattle.session_file.specs.Answered.{answered};
 ghost use Rattle.session_cases.specs.Cases.{judged};
 

@@ -4,7 +4,7 @@ use Rattle.std.proofs.lemmas.Bool.{le-leb, lt-leb, ne_eqb}
 use Rattle.rules.specs.declared.terms.Terms.{Terms}
 use Rattle.tables.specs.Meaning.{Capacity}
 use Rattle.book.specs.declared.call.Call.{Call}
-use Rattle.book.specs.Marks.{Session, begun}
+use Rattle.book.specs.Marks.{Session, new_session}
 use Rattle.book.specs.Model.{result}
 use Rattle.session_file.specs.declared.fault.Fault.{Fault}
 use Rattle.session_file.specs.Cut.{cut}
@@ -134,12 +134,12 @@ module _ (cap : Capacity) (room : ℕ) where
 
   opened_broken :
       (r : Result Terms ℕ) (n : ℕ) (cs : List Call) (a : Ahead) → length cs ≤ n → Stacked (Number n) (CallsThen cs (BrokenNext (n - length cs))) a.text →
-      opened cap room r a ≡ under r (λ t. said t room (begun cap) cs ++ fault_text (length cs + (a.line + 1)))
+      opened cap room r a ≡ under r (λ t. said t room (new_session cap) cs ++ fault_text (length cs + (a.line + 1)))
   unfolding behind
   opened_broken (Err m) n cs a few h = refl
   opened_broken (Ok t) n cs a few h =
       let count = number_read n (CallsThen cs (BrokenNext (n - length cs))) a h in
-      rw count (calls_broken t room cs n (begun cap) (behind a h.rest) few h.next)
+      rw count (calls_broken t room cs n (new_session cap) (behind a h.rest) few h.next)
 
   pub file_broken : (file : List ℕ) → BrokenInTurn cap room file (answered cap room file)
   unfolding behind

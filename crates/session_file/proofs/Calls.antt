@@ -6,16 +6,26 @@ use Rattle.rules.specs.declared.order.Direction.{Direction}
 use Rattle.book.specs.declared.call.Call.{Call}
 use Rattle.book.specs.declared.call.Call.TheVariants.{Enter, Alter, Withdraw, Advance}
 use Rattle.session_file.specs.Cut.{fields}
-use Rattle.session_file.specs.Grammar.{Line, ReadsAs}
+use Rattle.session_file.specs.Grammar.{Line}
 use Rattle.session_file.specs.Laws.{OneCall}
 use Rattle.session_file.specs.Reading.{letter_of, number_of, side_of, limit_of, taking, alone, enter_of, alter_of, withdraw_of, advance_of, lettered_call, call_of}
 use Rattle.session_file.proofs.Cutting.{is_empty-fields}
 use Rattle.session_file.proofs.Numbers.{number_found}
 use Rattle.session_file.proofs.Forms.{letter_takes, number_takes, side_takes, limit_takes, letter_found, side_found, limit_found, past_first, past_last, one_or_more, More, Last}
 
+-- calls from what their fields say
+abbrev new_order : ℕ → Direction → Option ℕ → ℕ → Call
+new_order m d p v = Enter (record { member = m; direction = d; limit = p; volume = v })
+
+abbrev new_terms : ℕ → ℕ → ℕ → ℕ → Call
+new_terms m n p v = Alter (record { member = m; number = n; price = p; volume = v })
+
+abbrev taken_out : ℕ → ℕ → Call
+taken_out m n = Withdraw (record { member = m; number = n })
+
 -- what is still to be read after a field of each call
 abbrev after_price : ℕ → Direction → Option ℕ → ℕ → List (List ℕ) → Option Call
-after_price m d p v fs = alone fs (Enter m d p v)
+after_price m d p v fs = alone fs (new_order m d p v)
 
 abbrev after_side : ℕ → Direction → Option ℕ → List (List ℕ) → Option Call
 after_side m d p fs = taking number_of fs (after_price m d p)
@@ -27,7 +37,7 @@ abbrev entering : ℕ → List (List ℕ) → Option Call
 entering m fs = taking side_of fs (after_member m)
 
 abbrev after_new_price : ℕ → ℕ → ℕ → ℕ → List (List ℕ) → Option Call
-after_new_price m n p v fs = alone fs (Alter m n p v)
+after_new_price m n p v fs = alone fs (new_terms m n p v)
 
 abbrev after_number : ℕ → ℕ → ℕ → List (List ℕ) → Option Call
 after_number m n p fs = taking number_of fs (after_new_price m n p)
@@ -39,28 +49,28 @@ abbrev altering : ℕ → List (List ℕ) → Option Call
 altering m fs = taking number_of fs (after_owner m)
 
 abbrev withdrawn : ℕ → ℕ → List (List ℕ) → Option Call
-withdrawn m n fs = alone fs (Withdraw m n)
+withdrawn m n fs = alone fs (taken_out m n)
 
 abbrev withdrawing : ℕ → List (List ℕ) → Option Call
 withdrawing m fs = taking number_of fs (withdrawn m)
 
-pub call_taken : (call : Call) (line : List ℕ) → ReadsAs line call → call_of line ≡ Some call
-call_taken (Enter m d p v) line s =
+pub call_taken : (call : Call) (line : List ℕ) → Line call line → call_of line ≡ Some call
+call_taken (Enter x) line s =
     past_first letter_of 69 _ (letter_takes 69 refl) lettered_call _ line s
-    ∙ past_first number_of m _ (number_takes m) entering _ s.rest s.next
-    ∙ past_first side_of d _ (side_takes d) (after_member m) _ s.next.rest s.next.next
-    ∙ past_first limit_of p _ (limit_takes p) (after_side m d) _ s.next.next.rest s.next.next.next
-    ∙ past_last number_of v _ (number_takes v) (after_price m d p) s.next.next.next.rest s.next.next.next.next
-call_taken (Alter m n p v) line s =
+    ∙ past_first number_of x.member _ (number_takes x.member) entering _ s.rest s.next
+    ∙ past_first side_of x.direction _ (side_takes x.direction) (after_member x.member) _ s.next.rest s.next.next
+    ∙ past_first limit_of x.limit _ (limit_takes x.limit) (after_side x.member x.direction) _ s.next.next.rest s.next.next.next
+    ∙ past_last number_of x.volume _ (number_takes x.volume) (after_price x.member x.direction x.limit) s.next.next.next.rest s.next.next.next.next
+call_taken (Alter x) line s =
     past_first letter_of 65 _ (letter_takes 65 refl) lettered_call _ line s
-    ∙ past_first number_of m _ (number_takes m) altering _ s.rest s.next
-    ∙ past_first number_of n _ (number_takes n) (after_owner m) _ s.next.rest s.next.next
-    ∙ past_first number_of p _ (number_takes p) (after_number m n) _ s.next.next.rest s.next.next.next
-    ∙ past_last number_of v _ (number_takes v) (after_new_price m n p) s.next.next.next.rest s.next.next.next.next
-call_taken (Withdraw m n) line s =
+    ∙ past_first number_of x.member _ (number_takes x.member) altering _ s.rest s.next
+    ∙ past_first number_of x.number _ (number_takes x.number) (after_owner x.member) _ s.next.rest s.next.next
+    ∙ past_first number_of x.price _ (number_takes x.price) (after_number x.member x.number) _ s.next.next.rest s.next.next.next
+    ∙ past_last number_of x.volume _ (number_takes x.volume) (after_new_price x.member x.number x.price) s.next.next.next.rest s.next.next.next.next
+call_taken (Withdraw x) line s =
     past_first letter_of 87 _ (letter_takes 87 refl) lettered_call _ line s
-    ∙ past_first number_of m _ (number_takes m) withdrawing _ s.rest s.next
-    ∙ past_last number_of n _ (number_takes n) (withdrawn m) s.next.rest s.next.next
+    ∙ past_first number_of x.member _ (number_takes x.member) withdrawing _ s.rest s.next
+    ∙ past_last number_of x.number _ (number_takes x.number) (withdrawn x.member) s.next.rest s.next.next
 call_taken Advance line s = past_last letter_of 78 _ (letter_takes 78 refl) lettered_call line s
 
 no_call : (call : Call) → None ≡ Some call → ⊥
@@ -91,8 +101,8 @@ enter_found rest call e =
     let m = more_comes number_of entering call rest e (λ x h. no_call call h) in
     let d = more_comes side_of (after_member m.x) call m.rest m.then (λ x h. no_call call h) in
     let p = more_comes limit_of (after_side m.x d.x) call d.rest d.then (λ x h. no_call call h) in
-    let v = is_last number_of (after_price m.x d.x p.x) call p.rest p.then (λ x r h. more_left r (Enter m.x d.x p.x x) call h) in
-    let says : Line (Enter m.x d.x p.x v.x) (69 ∷ 32 ∷ rest) =
+    let v = is_last number_of (after_price m.x d.x p.x) call p.rest p.then (λ x r h. more_left r (new_order m.x d.x p.x x) call h) in
+    let says : Line (new_order m.x d.x p.x v.x) (69 ∷ 32 ∷ rest) =
     record {
       field = codes "E";
       rest = rest;
@@ -118,15 +128,15 @@ enter_found rest call e =
         };
       };
     } in
-    said_as (69 ∷ 32 ∷ rest) (Enter m.x d.x p.x v.x) call v.then says
+    said_as (69 ∷ 32 ∷ rest) (new_order m.x d.x p.x v.x) call v.then says
 
 alter_found : (rest : List ℕ) (call : Call) → alter_of (fields rest) ≡ Some call → Line call (65 ∷ 32 ∷ rest)
 alter_found rest call e =
     let m = more_comes number_of altering call rest e (λ x h. no_call call h) in
     let n = more_comes number_of (after_owner m.x) call m.rest m.then (λ x h. no_call call h) in
     let p = more_comes number_of (after_number m.x n.x) call n.rest n.then (λ x h. no_call call h) in
-    let v = is_last number_of (after_new_price m.x n.x p.x) call p.rest p.then (λ x r h. more_left r (Alter m.x n.x p.x x) call h) in
-    let says : Line (Alter m.x n.x p.x v.x) (65 ∷ 32 ∷ rest) =
+    let v = is_last number_of (after_new_price m.x n.x p.x) call p.rest p.then (λ x r h. more_left r (new_terms m.x n.x p.x x) call h) in
+    let says : Line (new_terms m.x n.x p.x v.x) (65 ∷ 32 ∷ rest) =
     record {
       field = codes "A";
       rest = rest;
@@ -152,13 +162,13 @@ alter_found rest call e =
         };
       };
     } in
-    said_as (65 ∷ 32 ∷ rest) (Alter m.x n.x p.x v.x) call v.then says
+    said_as (65 ∷ 32 ∷ rest) (new_terms m.x n.x p.x v.x) call v.then says
 
 withdraw_found : (rest : List ℕ) (call : Call) → withdraw_of (fields rest) ≡ Some call → Line call (87 ∷ 32 ∷ rest)
 withdraw_found rest call e =
     let m = more_comes number_of withdrawing call rest e (λ x h. no_call call h) in
-    let n = is_last number_of (withdrawn m.x) call m.rest m.then (λ x r h. more_left r (Withdraw m.x x) call h) in
-    let says : Line (Withdraw m.x n.x) (87 ∷ 32 ∷ rest) =
+    let n = is_last number_of (withdrawn m.x) call m.rest m.then (λ x r h. more_left r (taken_out m.x x) call h) in
+    let says : Line (taken_out m.x n.x) (87 ∷ 32 ∷ rest) =
     record {
       field = codes "W";
       rest = rest;
@@ -172,7 +182,7 @@ withdraw_found rest call e =
         next = number_found n.x m.rest n.got;
       };
     } in
-    said_as (87 ∷ 32 ∷ rest) (Withdraw m.x n.x) call n.then says
+    said_as (87 ∷ 32 ∷ rest) (taken_out m.x n.x) call n.then says
 
 -- which of four answers stands, by four tests
 data Chosen (a b c d : Bool) (e f g h : Option Call) (call : Call) : Type 0 where
@@ -197,7 +207,7 @@ line_of c x line field rest call got whole e says =
     let same : line ≡ c ∷ 32 ∷ rest = whole ∙ ap (λ (f : List ℕ). f ++ 32 ∷ rest) letter in
     subst (λ l. Line call l) (sym same) says
 
-pub call_found : (call : Call) (line : List ℕ) → call_of line ≡ Some call → ReadsAs line call
+pub call_found : (call : Call) (line : List ℕ) → call_of line ≡ Some call → Line call line
 call_found call line e =
     elim (one_or_more letter_of lettered_call call line e) [
       | inl m ↦

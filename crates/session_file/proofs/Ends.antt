@@ -4,7 +4,7 @@ use Rattle.std.specs.List.{flat_map}
 use Rattle.rules.specs.declared.terms.Terms.{Terms}
 use Rattle.tables.specs.Meaning.{Capacity}
 use Rattle.book.specs.declared.call.Call.{Call}
-use Rattle.book.specs.Marks.{Session, begun, reference_left}
+use Rattle.book.specs.Marks.{Session, new_session, reference_left}
 use Rattle.market.specs.declared.journal.Entry.{Entry}
 use Rattle.market.specs.Journaled.{Journaled}
 use Rattle.market.specs.Works.{Seen}
@@ -27,7 +27,7 @@ module _ (t : Terms) (cap : Capacity) (room n : ℕ) (a : Ahead) (read : Result 
     (es : List Entry) (s : Seen) (journal : Journaled t cap cs room es s) (out put : List ℕ) (put_is : put ≡ out ++ flat_map entry_text es)
     (reference : ℕ) (reference_is : reference ≡ reference_left s.terms s.session) where
   abbrev start : Session
-  start = begun cap
+  start = new_session cap
 
   abbrev whole : Result (Unit {0}) Stop → List ℕ → Type 0
   whole r text = Comes (ending_with r reference) put (out ++ text)

@@ -7,13 +7,14 @@ use Rattle.rules.specs.Terms as terms
 use Rattle.rules.specs.declared.terms.Terms.{Terms}
 use Rattle.tables.specs.Meaning.{Capacity}
 use Rattle.book.specs.declared.call.Call.{Call}
-use Rattle.book.specs.Day.{Day, step}
+use Rattle.book.specs.Day.{Day}
+use Rattle.book.specs.Calls.{step}
 use Rattle.book.specs.Ending.{reference_by}
 use Rattle.book.specs.Journal.{Line, journal}
 use Rattle.book.specs.Law.{Try}
 use Rattle.book.specs.Leads.{outcome, Leads}
-use Rattle.book.specs.Marks.{Session, begun, worked, reference_left}
-use Rattle.book.specs.Model.{model, moved, came, result, day_after}
+use Rattle.book.specs.Marks.{Session, new_session, session_after, reference_left}
+use Rattle.book.specs.Model.{model, day_after, what_came, result, day_after_tries}
 use Rattle.book.proofs.Endings.{ends_by_journal}
 use Rattle.book.proofs.Journals.{law_of_journals}
 use Rattle.book.proofs.Laws.{law}
@@ -30,18 +31,18 @@ use Rattle.session_file.proofs.Whole.{file_told}
 module _ (t : Terms) (cap : Capacity) where
   -- the session after tries, the last first
   session_at : List Try → Session
-  session_at [] = begun cap
-  session_at (x ∷ past) = worked t x.call (session_at past) (outcome t (session_at past).day x)
+  session_at [] = new_session cap
+  session_at (x ∷ past) = session_after t x.call (session_at past) (outcome t (session_at past).day x)
 
-  day_at : (past : List Try) → (session_at past).day ≡ day_after step t cap past
+  day_at : (past : List Try) → (session_at past).day ≡ day_after_tries step t cap past
   unfolding session_at
   day_at [] = refl
-  day_at (x ∷ past) = ap (λ (d : Day). moved d (step t d x.call x.room)) (day_at past)
+  day_at (x ∷ past) = ap (λ (d : Day). day_after d (step t d x.call x.room)) (day_at past)
 
   leads_there : (past : List Try) → Leads t cap (journal model t cap past) (session_at past)
   unfolding session_at
   leads_there [] = refl
-  leads_there (x ∷ past) = (session_at past, leads_there past, ap (λ (d : Day). came d (step t d x.call x.room)) (day_at past), refl)
+  leads_there (x ∷ past) = (session_at past, leads_there past, ap (λ (d : Day). what_came d (step t d x.call x.room)) (day_at past), refl)
 
   module _ (room : ℕ) where
     abbrev trying : Call → Try
@@ -56,7 +57,7 @@ module _ (t : Terms) (cap : Capacity) where
         ap (λ ts. ts ++ past) (reverse-append (trying c ∷ []) (map trying cs))
         ∙ append_assoc (tries cs room) (trying c ∷ []) past
 
-    told_one : (past : List Try) (c : Call) → told (result (outcome t (day_after step t cap past) (trying c))) ≡ told (result (outcome_of t room (session_at past) c))
+    told_one : (past : List Try) (c : Call) → told (result (outcome t (day_after_tries step t cap past) (trying c))) ≡ told (result (outcome_of t room (session_at past) c))
     told_one past c = ap (λ (d : Day). told (result (step t d c room))) (sym (day_at past))
 
     -- what is said of more calls stands behind the text of the journal
@@ -81,11 +82,11 @@ module _ (t : Terms) (cap : Capacity) where
     unfolding back
     all_back cs = append-nil (tries cs room)
 
-    text_is : (cs : List Call) → journal_text (written cs) ≡ said t room (begun cap) cs
+    text_is : (cs : List Call) → journal_text (written cs) ≡ said t room (new_session cap) cs
     unfolding session_at
     text_is cs = ap (λ ts. journal_text (journal model t cap ts)) (sym (all_back cs)) ∙ text_more cs []
 
-    reference_is : (cs : List Call) → reference_left t (after_all t room (begun cap) cs) ≡ reference_by t (written cs)
+    reference_is : (cs : List Call) → reference_left t (after_all t room (new_session cap) cs) ≡ reference_by t (written cs)
     unfolding session_at
     reference_is cs =
         ap (reference_left t) (sym (session_more cs []) ∙ ap session_at (all_back cs))

@@ -8,8 +8,8 @@ use Rattle.book.specs.declared.call.Call.{Call}
 use Rattle.book.specs.Journal.{Line}
 use Rattle.book.specs.Law.{Try, Came}
 use Rattle.book.specs.Leads.{outcome, Leads}
-use Rattle.book.specs.Marks.{Session, begun, worked}
-use Rattle.book.specs.Model.{came, result}
+use Rattle.book.specs.Marks.{Session, new_session, session_after}
+use Rattle.book.specs.Model.{what_came, result}
 use Rattle.market.specs.declared.journal.Entry.{Entry}
 use Rattle.market.specs.Journaled.{line_in, Asked, Told, Journaled, lines}
 use Rattle.market.specs.Works.{Seen}
@@ -48,7 +48,7 @@ module _ (t : Terms) (room : ℕ) where
   module _ (cap : Capacity) where
     journal_said :
         (past : List Line) (calls : List Call) (es : List Entry) (s : Session) → Told past es → Asked calls room es → Leads t cap past s →
-        (flat_map entry_text es ≡ said t room (begun cap) calls) × (s ≡ after_all t room (begun cap) calls)
+        (flat_map entry_text es ≡ said t room (new_session cap) calls) × (s ≡ after_all t room (new_session cap) calls)
     journal_said [] [] es s none asked leads = (ap (flat_map entry_text) none, leads)
     journal_said [] (c ∷ cs) es s none asked leads = absurd (subst (Asked (c ∷ cs) room) none asked)
     journal_said (x ∷ past) calls es s h asked leads =
@@ -56,21 +56,21 @@ module _ (t : Terms) (room : ℕ) where
         let e : Entry = h.1 in
         let p : Split calls room before e = asked_last calls room before e (subst (Asked calls room) h.2 asked) in
         let back = journal_said past p.front before leads.0 h.4 p.asked leads.1 in
-        let reached : Session = after_all t room (begun cap) p.front in
+        let reached : Session = after_all t room (new_session cap) p.front in
         let line : line_in e x.came.book ≡ x = h.3 in
         let x_asked : x.asked ≡ record { call = p.last; room = room } =
         sym (ap (λ (y : Line). y.asked) line) ∙ (λ i. record { call = p.call_is i; room = p.room_is i })
         in
-        let come : Session → Try → Came = λ (z : Session) (y : Try). came z.day (outcome t z.day y) in
+        let come : Session → Try → Came = λ (z : Session) (y : Try). what_came z.day (outcome t z.day y) in
         let mine : entry_text e ≡ told (result (outcome_of t room reached p.last)) =
         ap (λ (y : Line). told y.came.result) line ∙ ap (λ (y : Came). told y.result) (sym leads.2 ∙ (λ i. come (back.1 i) (x_asked i)))
         in (
           ap (flat_map entry_text) h.2 ∙ flat_map-append entry_text before (e ∷ []) ∙ ap (λ text. flat_map entry_text before ++ text) (append-nil (entry_text e))
-              ∙ (λ i. back.0 i ++ mine i) ∙ sym (said_more (begun cap) p.front p.last) ∙ ap (said t room (begun cap)) (sym p.whole),
-          sym leads.3 ∙ (λ i. worked t (x_asked i).call (back.1 i) (outcome t (back.1 i).day (x_asked i)))
-              ∙ sym (after_more (begun cap) p.front p.last) ∙ ap (after_all t room (begun cap)) (sym p.whole),
+              ∙ (λ i. back.0 i ++ mine i) ∙ sym (said_more (new_session cap) p.front p.last) ∙ ap (said t room (new_session cap)) (sym p.whole),
+          sym leads.3 ∙ (λ i. session_after t (x_asked i).call (back.1 i) (outcome t (back.1 i).day (x_asked i)))
+              ∙ sym (after_more (new_session cap) p.front p.last) ∙ ap (after_all t room (new_session cap)) (sym p.whole),
         )
 
 pub all_said : (t : Terms) (cap : Capacity) (calls : List Call) (room : ℕ) (es : List Entry) (s : Seen) → Journaled t cap calls room es s →
-    (flat_map entry_text es ≡ said t room (begun cap) calls) × (s.session ≡ after_all t room (begun cap) calls)
+    (flat_map entry_text es ≡ said t room (new_session cap) calls) × (s.session ≡ after_all t room (new_session cap) calls)
 all_said t cap calls room es s h = journal_said t room cap (lines t cap calls room) calls es s.session h.told h.asked h.leads

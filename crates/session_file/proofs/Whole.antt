@@ -7,7 +7,7 @@ use Rattle.rules.specs.declared.order.Direction.{Direction}
 use Rattle.rules.specs.declared.order.Direction.TheVariants.{Buy, Sell}
 use Rattle.rules.specs.declared.terms.Terms.{Terms}
 use Rattle.tables.specs.Meaning.{Capacity}
-use Rattle.book.specs.Marks.{Session, begun}
+use Rattle.book.specs.Marks.{Session, new_session}
 use Rattle.book.specs.Model.{result}
 use Rattle.book.specs.declared.call.Call.{Call}
 use Rattle.book.specs.declared.call.Call.TheVariants.{Enter, Alter, Withdraw, Advance}
@@ -40,16 +40,18 @@ pub numbers_free : (n : ℕ) (field : List ℕ) → Number n field → Free 10 f
 numbers_free n field h = number_free 10 (lit< tt) n field h
 
 pub line_free : (call : Call) (line : List ℕ) → Line call line → Free 10 line
-line_free (Enter m d p v) line s =
+line_free (Enter e) line s =
     spaced_free _ _ (λ f e. letter_free 10 69 f refl e)
-    (spaced_free _ _ (numbers_free m) (spaced_free _ _ (side_free d) (spaced_free _ _ (price_free p) (numbers_free v))))
+    (spaced_free _ _ (numbers_free e.member)
+    (spaced_free _ _ (side_free e.direction) (spaced_free _ _ (price_free e.limit) (numbers_free e.volume))))
     line s
-line_free (Alter m n p v) line s =
+line_free (Alter a) line s =
     spaced_free _ _ (λ f e. letter_free 10 65 f refl e)
-    (spaced_free _ _ (numbers_free m) (spaced_free _ _ (numbers_free n) (spaced_free _ _ (numbers_free p) (numbers_free v))))
+    (spaced_free _ _ (numbers_free a.member)
+    (spaced_free _ _ (numbers_free a.number) (spaced_free _ _ (numbers_free a.price) (numbers_free a.volume))))
     line s
-line_free (Withdraw m n) line s =
-    spaced_free _ _ (λ f e. letter_free 10 87 f refl e) (spaced_free _ _ (numbers_free m) (numbers_free n)) line s
+line_free (Withdraw w) line s =
+    spaced_free _ _ (λ f e. letter_free 10 87 f refl e) (spaced_free _ _ (numbers_free w.member) (numbers_free w.number)) line s
 line_free Advance line e = letter_free 10 78 line refl e
 
 first_mark : (line rest : List ℕ) → Free 10 line → position_or_len (is 10) (line ++ 10 ∷ rest) ≡ length line
@@ -105,7 +107,7 @@ module _ (cap : Capacity) (room : ℕ) where
   opened_told (Err n) cs a h = refl
   opened_told (Ok t) cs a h =
       let count = number_read (length cs) (CallLines cs) a h in
-      rw count (calls_told t room cs (begun cap) (behind a h.rest) h.next)
+      rw count (calls_told t room cs (new_session cap) (behind a h.rest) h.next)
 
   pub file_told : (file : List ℕ) → AnsweredInTurn cap room file (answered cap room file)
   unfolding behind

@@ -5,10 +5,10 @@ use Rattle.rules.specs.declared.terms.Terms.{Terms}
 use Rattle.tables.specs.Meaning.{Capacity}
 use Rattle.book.specs.declared.call.Call.{Call}
 use Rattle.book.specs.declared.slip.Slip.{Slip}
-use Rattle.book.specs.Day.{Outcome}
+use Rattle.book.specs.Calls.{Outcome}
 use Rattle.book.specs.Law.{Verdict, refused, accepted}
 use Rattle.book.specs.Leads.{outcome}
-use Rattle.book.specs.Marks.{Session, begun, worked, reference_left}
+use Rattle.book.specs.Marks.{Session, new_session, session_after, reference_left}
 use Rattle.book.specs.Model.{result}
 use Rattle.session_file.specs.declared.fault.Fault.{Fault}
 use Rattle.session_file.specs.Lines.{Ahead, first_ahead, number_line, call_line, terms_section, ending}
@@ -38,7 +38,7 @@ module _ (t : Terms) (room : ℕ) where
   outcome_of s call = outcome t s.day (record { call = call; room = room })
 
   abbrev pub session_after : Session → Call → Session
-  session_after s call = worked t call s (outcome_of s call)
+  session_after s call = session_after t call s (outcome_of s call)
 
   -- the last line of a session that was worked to its end
   abbrev pub closing : Session → List ℕ
@@ -57,7 +57,7 @@ under (Ok t) text = text t
 
 -- the section of the calls
 abbrev pub opened : Capacity → ℕ → Result Terms ℕ → Ahead → List ℕ
-opened cap room terms ahead = under terms (λ t. reading (number_line ahead) (λ count. calls t room count.0 (begun cap) count.1))
+opened cap room terms ahead = under terms (λ t. reading (number_line ahead) (λ count. calls t room count.0 (new_session cap) count.1))
 
 abbrev pub sections : Capacity → ℕ → Ahead → List ℕ
 sections cap room ahead = reading (terms_section ahead) (λ s. opened cap room (terms_from s.0.reference s.0.block) s.1)

@@ -2,7 +2,7 @@
 use Rattle.std.specs.Prelude.{◌≡◌, ℕ, zero, suc, ◌+◌, ◌-◌, ◌<◌, ◌≤◌, List, [], ◌∷◌, ◌++◌, length}
 use Rattle.tables.specs.Meaning.{Capacity}
 use Rattle.book.specs.declared.call.Call.{Call}
-use Rattle.book.specs.Marks.{begun}
+use Rattle.book.specs.Marks.{new_session}
 use Rattle.session_file.specs.Grammar.{Number, Line}
 use Rattle.session_file.specs.Files.{◌above◌}
 use Rattle.session_file.specs.Answered.{ended, under}
@@ -56,4 +56,4 @@ pub record BrokenInTurn (cap : Capacity) (room : ℕ) (file text : List ℕ) : T
   pub in_calls :
       (reference block n : ℕ) (calls : List Call) → length file ≤ 65536 → length calls ≤ n →
       BrokenCalls reference block n calls file →
-      text ≡ under (terms_from reference block) (λ t. said t room (begun cap) calls ++ fault_text (length calls + 5))
+      text ≡ under (terms_from reference block) (λ t. said t room (new_session cap) calls ++ fault_text (length calls + 5))

@@ -4,7 +4,7 @@ use Rattle.std.specs.Prelude.{◌≡◌, ℕ, List, [], ◌∷◌, ◌++◌, ◌
 use Rattle.rules.specs.declared.terms.Terms.{Terms}
 use Rattle.tables.specs.Meaning.{Capacity}
 use Rattle.book.specs.declared.call.Call.{Call}
-use Rattle.book.specs.Marks.{begun}
+use Rattle.book.specs.Marks.{new_session}
 use Rattle.session_file.specs.Grammar.{Number, Line}
 use Rattle.session_file.specs.Answered.{closing, under}
 use Rattle.session_file.specs.Gathered.{said, after_all}
@@ -34,7 +34,7 @@ File reference block calls =
 -- the text of these calls in turn
 abbrev pub text_of : Capacity → ℕ → Result Terms ℕ → List Call → List ℕ
 text_of cap room terms calls =
-    under terms (λ t. said t room (begun cap) calls ++ closing t room (after_all t room (begun cap) calls))
+    under terms (λ t. said t room (new_session cap) calls ++ closing t room (after_all t room (new_session cap) calls))
 
 -- a file that is not too long, and says terms and calls, is answered call after call
 abbrev pub AnsweredInTurn : Capacity → ℕ → List ℕ → List ℕ → Type 0

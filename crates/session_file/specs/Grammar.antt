@@ -40,11 +40,9 @@ First then Next = Spaced First Next
 
 -- the lines that say a call
 abbrev pub Line : Call → List ℕ → Type 0
-Line (Enter member side price volume) = Text (codes "E") then Number member then Side side then Price price then Number volume
-Line (Alter member number price volume) = Text (codes "A") then Number member then Number number then Number price then Number volume
-Line (Withdraw member number) = Text (codes "W") then Number member then Number number
+Line (Enter e) =
+    Text (codes "E") then Number e.member then Side e.direction then Price e.limit then Number e.volume
+Line (Alter a) =
+    Text (codes "A") then Number a.member then Number a.number then Number a.price then Number a.volume
+Line (Withdraw w) = Text (codes "W") then Number w.member then Number w.number
 Line Advance = Text (codes "N")
-
--- this line reads as this call
-abbrev pub ReadsAs : List ℕ → Call → Type 0
-ReadsAs line call = Line call line

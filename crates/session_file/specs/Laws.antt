@@ -4,13 +4,13 @@ use Rattle.std.specs.Fmt.{decimal}
 use Rattle.rules.specs.Terms as terms
 use Rattle.rules.specs.declared.terms.Terms.{Terms}
 use Rattle.book.specs.declared.call.Call.{Call}
-use Rattle.session_file.specs.Grammar.{Number, Line, ReadsAs}
+use Rattle.session_file.specs.Grammar.{Number, Line}
 use Rattle.session_file.specs.Lines.{Ahead, number_line, call_line}
 use Rattle.session_file.specs.Opening.{terms_from}
 
 -- a line reads as one call at most
 abbrev pub OneCall : Type 0
-OneCall = (line : List ℕ) (one other : Call) → ReadsAs line one → ReadsAs line other → one ≡ other
+OneCall = (line : List ℕ) (one other : Call) → Line one line → Line other line → one ≡ other
 
 -- what is ahead begins with a line as First says, with its byte 10, and behind it is what is left
 pub record Begins (First : List ℕ → Type 0) (ahead behind : Ahead) : Type 0 where

@@ -8,7 +8,7 @@ use Rattle.book.specs.declared.answer.Told.{Told}
 use Rattle.book.specs.declared.answer.Told.TheVariants.{Entered, Altered, Withdrawn, Advanced}
 use Rattle.book.specs.declared.slip.Slip.{Slip}
 use Rattle.book.specs.declared.slip.Slip.TheVariants.{Trade, Lapse}
-use Rattle.book.specs.Rules.{stage_number}
+use Rattle.book.specs.Stages.{stage_number}
 use Rattle.session_file.specs.declared.output.OutputLine.{OutputLine}
 use Rattle.session_file.specs.declared.output.OutputLine.TheVariants.{Accepted, Slipped, Refused, Broken, NextReference}
 
@@ -20,13 +20,12 @@ abbrev pub price_or_dash : Option ℕ → List ℕ
 price_or_dash (Some price) = decimal price
 price_or_dash None = codes "-"
 
--- the counts of slips are not written
 abbrev pub told_line : Told → List ℕ
-told_line (Entered number traded held) = spaced (codes "E" ∷ decimal number ∷ decimal traded ∷ decimal held ∷ [])
-told_line (Altered traded held) = spaced (codes "A" ∷ decimal traded ∷ decimal held ∷ [])
-told_line (Withdrawn volume) = spaced (codes "W" ∷ decimal volume ∷ [])
-told_line (Advanced stage price traded) =
-    spaced (codes "N" ∷ decimal (stage_number stage) ∷ price_or_dash price ∷ decimal traded ∷ [])
+told_line (Entered x) = spaced (codes "E" ∷ decimal x.number ∷ decimal x.traded ∷ decimal x.held ∷ [])
+told_line (Altered x) = spaced (codes "A" ∷ decimal x.traded ∷ decimal x.held ∷ [])
+told_line (Withdrawn x) = spaced (codes "W" ∷ decimal x.volume ∷ [])
+told_line (Advanced x) =
+    spaced (codes "N" ∷ decimal (stage_number x.stage) ∷ price_or_dash x.price ∷ decimal x.traded ∷ [])
 
 abbrev pub slip_line : Slip → List ℕ
 slip_line (Trade buy sell price volume) = spaced (codes "T" ∷ decimal buy ∷ decimal sell ∷ decimal price ∷ decimal volume ∷ [])
@@ -42,6 +41,7 @@ fault_line n = spaced (codes "X" ∷ decimal n ∷ [])
 abbrev pub reference_line : ℕ → List ℕ
 reference_line price = spaced (codes "F" ∷ decimal price ∷ [])
 
+-- of an answer what is told; the count of its slips is not written
 abbrev pub line : OutputLine → List ℕ
 line (Accepted answer) = told_line answer.told
 line (Slipped slip) = slip_line slip

@@ -57,13 +57,15 @@ abbrev pub alone : List (List ℕ) → Call → Option Call
 alone fs call = if is_empty fs then Some call else None
 
 abbrev pub enter_of : List (List ℕ) → Option Call
-enter_of fs = taking number_of fs (λ m fs. taking side_of fs (λ s fs. taking limit_of fs (λ p fs. taking number_of fs (λ v fs. alone fs (Enter m s p v)))))
+enter_of fs = taking number_of fs (λ m fs. taking side_of fs (λ s fs. taking limit_of fs (λ p fs. taking number_of fs (λ v fs.
+    alone fs (Enter (record { member = m; direction = s; limit = p; volume = v }))))))
 
 abbrev pub alter_of : List (List ℕ) → Option Call
-alter_of fs = taking number_of fs (λ m fs. taking number_of fs (λ n fs. taking number_of fs (λ p fs. taking number_of fs (λ v fs. alone fs (Alter m n p v)))))
+alter_of fs = taking number_of fs (λ m fs. taking number_of fs (λ n fs. taking number_of fs (λ p fs. taking number_of fs (λ v fs.
+    alone fs (Alter (record { member = m; number = n; price = p; volume = v }))))))
 
 abbrev pub withdraw_of : List (List ℕ) → Option Call
-withdraw_of fs = taking number_of fs (λ m fs. taking number_of fs (λ n fs. alone fs (Withdraw m n)))
+withdraw_of fs = taking number_of fs (λ m fs. taking number_of fs (λ n fs. alone fs (Withdraw (record { member = m; number = n }))))
 
 abbrev pub advance_of : List (List ℕ) → Option Call
 advance_of fs = alone fs Advance

@@ -1,7 +1,7 @@
 // The text that a whole file is answered with.
 ghost use Rattle.std.specs.Prelude.{◌≡◌, ◌++◌, IfOk, length};
 ghost use Rattle.std.specs.String.{string_bytes};
-ghost use Rattle.book.specs.Marks.{begun};
+ghost use Rattle.book.specs.Marks.{new_session};
 ghost use Rattle.session_file.specs.Answered.{calls as calls_text, answered};
 ghost use Rattle.session_file.specs.Broken.{BrokenInTurn};
 ghost use Rattle.session_file.specs.Files.{AnsweredInTurn};
@@ -86,7 +86,7 @@ fn answer_calls<T: Table + Drop>(
     run: &mut [Slip],
     out: &mut String,
 ) -> Result<u32, Stop>
-    ensures { Comes result (string_bytes out.new) (string_bytes out.old ++ calls_text terms (length run.old) count (begun (T.Table.contents table).capacity) (ahead lines.entry)) }
+    ensures { Comes result (string_bytes out.new) (string_bytes out.old ++ calls_text terms (length run.old) count (new_session (T.Table.contents table).capacity) (ahead lines.entry)) }
 {
     let mut calls = Vec::new(heap);
     let read = read_calls(lines, count, &mut calls);

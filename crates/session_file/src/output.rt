@@ -5,14 +5,14 @@ ghost use Rattle.std.specs.Fmt.{WritesOnOk};
 ghost use Rattle.session_file.specs.declared.output.OutputLine.TheVariants.{Accepted, Slipped, Refused, Broken};
 
 use crate::fault::Fault;
-use book::answer::{Answer, Told};
+use book::answer::{Advanced, Altered, Answer, Entered, Told, Withdrawn};
 use book::slip::Slip;
 use rules::refusal::Refusal;
 use std::fmt;
 
 #[derive(Clone, Copy)]
 pub enum OutputLine {
-    Accepted(Answer),
+    Accepted(Answer<Told>),
     Slipped(Slip),
     Refused(Refusal),
     Broken(Fault),
@@ -20,10 +20,10 @@ pub enum OutputLine {
     NextReference(u32),
 }
 
-impl From<Answer> for OutputLine {
+impl From<Answer<Told>> for OutputLine {
     ghost from_gives = { λ x r. r ≡ Accepted x };
 
-    fn from(x: Answer) -> OutputLine {
+    fn from(x: Answer<Told>) -> OutputLine {
         OutputLine::Accepted(x)
     }
 }
@@ -56,26 +56,32 @@ fn write_told<W: fmt::Write>(f: &mut fmt::Formatter<W>, told: Told) -> fmt::Resu
     ensures { WritesOnOk W.write_str_gives f.old result (told_line told) f.new }
 {
     match told {
-        Told::Entered {
-            number,
-            traded,
-            held,
-        } => write!(f, "E {number} {traded} {held}"),
-        Told::Altered { traded, held } => write!(f, "A {traded} {held}"),
-        Told::Withdrawn { volume } => write!(f, "W {volume}"),
-        Told::Advanced {
-            stage,
-            price: Some(price),
-            traded,
-        } => {
+        Told::Entered(
+            Entered {
+                number,
+                traded,
+                held,
+            },
+        ) => write!(f, "E {number} {traded} {held}"),
+        Told::Altered(Altered { traded, held }) => write!(f, "A {traded} {held}"),
+        Told::Withdrawn(Withdrawn { volume }) => write!(f, "W {volume}"),
+        Told::Advanced(
+            Advanced {
+                stage,
+                price: Some(price),
+                traded,
+            },
+        ) => {
             let stage = stage.number();
             write!(f, "N {stage} {price} {traded}")
         }
-        Told::Advanced {
-            stage,
-            price: None,
-            traded,
-        } => {
+        Told::Advanced(
+            Advanced {
+                stage,
+                price: None,
+                traded,
+            },
+        ) => {
             let stage = stage.number();
             write!(f, "N {stage} - {traded}")
         }

@@ -8,7 +8,7 @@ ghost use Rattle.session_file.specs.Answered.{ended, slip_text, told};
 ghost use Rattle.session_file.specs.Gathered.{entry_text};
 
 use crate::output::OutputLine;
-use book::answer::Answer;
+use book::answer::{Answer, Told};
 use book::slip::Slip;
 use market::journal::Entry;
 use rules::refusal::Refusal;
@@ -32,7 +32,7 @@ fn put_slips(out: &mut String, slips: &[Slip]) -> Result<(), AllocError>
 // What a call came to: its answer and its slips, or its refusal.
 pub fn put_call(
     out: &mut String,
-    answer: &Result<Answer, Refusal>,
+    answer: &Result<Answer<Told>, Refusal>,
     slips: &[Slip],
 ) -> Result<(), AllocError>
     ensures { OnOk result (string_bytes out.new ≡ string_bytes out.old ++ told (verdict_of answer.now slips.now)) }

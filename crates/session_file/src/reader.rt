@@ -2,12 +2,12 @@
 ghost use Rattle.std.specs.Prelude.{◌≡◌, ◌↔◌, Some};
 ghost use Rattle.book.specs.declared.call.Call.{Call};
 ghost use Rattle.session_file.specs.Cut.{left};
-ghost use Rattle.session_file.specs.Grammar.{ReadsAs};
+ghost use Rattle.session_file.specs.Grammar.{Line};
 ghost use Rattle.session_file.specs.Reading.{enter_of, alter_of, withdraw_of, advance_of, lettered_call, letter_of, taking, call_of};
 
 use crate::fields::{Fields, read_letter, read_limit, read_side};
 use crate::number::read_number;
-use book::call::Call;
+use book::call::{Alteration, Call, NewOrder, Withdrawal};
 
 fn enter(mut fields: Fields) -> Option<Call>
     ensures { result ≡ enter_of (left fields.entry) }
@@ -16,12 +16,12 @@ fn enter(mut fields: Fields) -> Option<Call>
     let direction = read_side(fields.next_field()?)?;
     let limit = read_limit(fields.next_field()?)?;
     let volume = read_number(fields.next_field()?)?;
-    fields.is_empty().then_some(Call::Enter {
+    fields.is_empty().then_some(Call::Enter(NewOrder {
         member,
         direction,
         limit,
         volume,
-    })
+    }))
 }
 
 fn alter(mut fields: Fields) -> Option<Call>
@@ -30,13 +30,13 @@ fn alter(mut fields: Fields) -> Option<Call>
     let member = read_number(fields.next_field()?)?;
     let number = read_number(fields.next_field()?)?;
     let price = read_number(fields.next_field()?)?;
-    let wanted = read_number(fields.next_field()?)?;
-    fields.is_empty().then_some(Call::Alter {
+    let volume = read_number(fields.next_field()?)?;
+    fields.is_empty().then_some(Call::Alter(Alteration {
         member,
         number,
         price,
-        volume: wanted,
-    })
+        volume,
+    }))
 }
 
 fn withdraw(mut fields: Fields) -> Option<Call>
@@ -46,7 +46,7 @@ fn withdraw(mut fields: Fields) -> Option<Call>
     let number = read_number(fields.next_field()?)?;
     fields
         .is_empty()
-        .then_some(Call::Withdraw { member, number })
+        .then_some(Call::Withdraw(Withdrawal { member, number }))
 }
 
 fn advance(fields: Fields) -> Option<Call>
@@ -69,7 +69,7 @@ fn call(mut fields: Fields) -> Option<Call>
 
 // The call that a line reads as, if any.
 pub fn read_call(line: &[u8]) -> Option<Call>
-    ensures grammar { (call : Call) → (result ≡ Some call) ↔ ReadsAs line.now call }
+    ensures grammar { (call : Call) → (result ≡ Some call) ↔ Line call line.now }
     ensures value { result ≡ call_of line.now }
 {
     call(Fields::new(line))

@@ -4,8 +4,8 @@ use crate::lines::Lines;
 use crate::number::read_number;
 use crate::output::OutputLine;
 use crate::reader::read_call;
-use book::answer::{Answer, Told};
-use book::call::Call;
+use book::answer::{Advanced, Answer, Told};
+use book::call::{Alteration, Call, NewOrder, Withdrawal};
 use book::slip::Slip;
 use book::stage::Stage;
 use rules::order::{Direction, Order};
@@ -28,45 +28,45 @@ fn calls(rt: HostRuntime) {
     assert!(rt;
         matches!(
             enter,
-            Some(Call::Enter {
+            Some(Call::Enter(NewOrder {
                 member: 1,
                 direction: Direction::Buy,
                 limit: Some(1050),
                 volume: 40
-            })
+            }))
         )
     );
     let market = read_call(b"E 4 S M 20");
     assert!(rt;
         matches!(
             market,
-            Some(Call::Enter {
+            Some(Call::Enter(NewOrder {
                 member: 4,
                 direction: Direction::Sell,
                 limit: None,
                 volume: 20
-            })
+            }))
         )
     );
     let alter = read_call(b"A 1 2 990 30");
     assert!(rt;
         matches!(
             alter,
-            Some(Call::Alter {
+            Some(Call::Alter(Alteration {
                 member: 1,
                 number: 2,
                 price: 990,
                 volume: 30
-            })
+            }))
         )
     );
     assert!(rt;
         matches!(
             read_call(b"W 1 2"),
-            Some(Call::Withdraw {
+            Some(Call::Withdraw(Withdrawal {
                 member: 1,
                 number: 2
-            })
+            }))
         )
     );
     assert!(rt; matches!(read_call(b"N"), Some(Call::Advance)));
@@ -77,11 +77,11 @@ fn calls(rt: HostRuntime) {
 
 #[test]
 fn lines(rt: HostRuntime) -> Result<(), Fail> {
-    let told = Told::Advanced {
+    let told = Told::Advanced(Advanced {
         stage: Stage::Open,
         price: Some(1000),
         traded: 30,
-    };
+    });
     let advanced = Answer { told, slips: 1 };
     let alloc = rt.alloc();
     assert_eq!(rt;

@@ -1,7 +1,7 @@
 use Rattle.std.proofs.Common.{◌++◌, Ok, Err, length, ap, subst, ◌∙◌, rules}
 use Rattle.std.specs.List.{flat_map}
 use Rattle.std.specs.String.{string_bytes}
-use Rattle.book.specs.Marks.{begun}
+use Rattle.book.specs.Marks.{new_session}
 use Rattle.market.specs.Journaled.{Journaled}
 use Rattle.session_file.specs.Answered.{calls as calls_text}
 use Rattle.session_file.specs.Gathered.{Gathers, gathered, entry_text}
@@ -18,7 +18,7 @@ returns-in_err-read g c =
     let gathers = subst (λ before. Gathers (Err stop) before cs (gathered c.args.count (ahead c.args.lines))) c.new-calls.ensures.items c.in_err-read.ensures in
     let journal = subst (λ xs. Journaled c.args.terms cap xs (length c.args.run.now) c.in_ok-journal.journal.items c.in_ok-journal.session) c.deref.ensures.value c.in_ok-journal.ensures.journal in
     let put = c.in_ok-put_journal.ensures ∙ ap (λ es. string_bytes c.args.out.now ++ flat_map entry_text es) c.deref-2.ensures.value in
-    let ends : Comes (Err stop) (string_bytes c.put_journal.new.out) (string_bytes c.args.out.now ++ calls_text c.args.terms (length c.args.run.now) c.args.count (begun cap) (ahead c.args.lines)) =
+    let ends : Comes (Err stop) (string_bytes c.put_journal.new.out) (string_bytes c.args.out.now ++ calls_text c.args.terms (length c.args.run.now) c.args.count (new_session cap) (ahead c.args.lines)) =
     answered_so c.args.terms cap (length c.args.run.now) c.args.count (ahead c.args.lines) (Err stop) cs gathers
     c.in_ok-journal.journal.items c.in_ok-journal.session journal (string_bytes c.args.out.now) (string_bytes c.put_journal.new.out) put
     c.next_reference-reference.result (c.next_reference-reference.ensures ∙ c.end.ensures.marks)

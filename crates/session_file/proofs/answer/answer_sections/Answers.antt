@@ -1,6 +1,6 @@
 use Rattle.std.proofs.Common.{◌≡◌, ◌++◌, Ok, length, sym, ap, subst, ◌∙◌}
 use Rattle.std.specs.String.{string_bytes}
-use Rattle.book.specs.Marks.{begun}
+use Rattle.book.specs.Marks.{new_session}
 use Rattle.session_file.specs.Answered.{reading, calls as calls_text, opened, sections, answered}
 use Rattle.session_file.specs.Lines.{ahead}
 use Rattle.session_file.specs.Opening.{terms_from}
@@ -15,10 +15,10 @@ returns g c =
     let s = c.in_ok-section.section in
     let t = c.in_ok-terms.terms in
     let terms = terms_found s.reference s.block (Ok t) c.in_ok-terms.ensures in
-    let same : answered cap room c.args.file.now ≡ calls_text t room c.in_ok-count.count (begun cap) (ahead c.in_ok-count.lines) =
+    let same : answered cap room c.args.file.now ≡ calls_text t room c.in_ok-count.count (new_session cap) (ahead c.in_ok-count.lines) =
     ap (λ r. reading r (sections cap room)) (sym c.in_ok-lines.ensures)
     ∙ ap (λ r. reading r (λ p. opened cap room (terms_from p.0.reference p.0.block) p.1)) (sym c.in_ok-section.ensures)
     ∙ ap (λ r. opened cap room r (ahead c.in_ok-section.lines)) (sym terms)
-    ∙ ap (λ r. reading r (λ count. calls_text t room count.0 (begun cap) count.1)) (sym c.in_ok-count.ensures)
+    ∙ ap (λ r. reading r (λ count. calls_text t room count.0 (new_session cap) count.1)) (sym c.in_ok-count.ensures)
     in
     subst (λ text. Comes c.answer_calls.result (string_bytes c.answer_calls.new.out) (string_bytes c.args.out.now ++ text)) (sym same) c.answer_calls.ensures
