@@ -4,6 +4,7 @@ use Rattle.std.proofs.lemmas.Bool.{and_from, and_parts, not_from_false, lt-ltb, 
 use Rattle.std.specs.List as lists
 use Rattle.std.specs.List.{slice_get, list_all, find}
 use Rattle.std.specs.Option.{option_or}
+use Rattle.rules.specs.Book.{Book}
 use Rattle.rules.specs.Rank.{before}
 use Rattle.rules.specs.Side.{opposite}
 use Rattle.rules.specs.declared.order.Direction.{Direction}
@@ -65,6 +66,14 @@ looked_up n c s o h = go (find (numbered n) c.book.buys) refl h
     go : (x : Option Order) → find (numbered n) c.book.buys ≡ x → option_or x (find (numbered n) c.book.sells) ≡ Some o → Held n c o
     go (Some b) e k = on_its_side n c s Buy o (spot n c.book.buys o (e ∙ k))
     go None e k = on_its_side n c s Sell o (spot n c.book.sells o k)
+
+-- an order that is found has the number that was looked for
+pub found_number : (n : ℕ) (b : Book) (o : Order) → lookup n b ≡ Some o → o.number ≡ n
+found_number n b o h = go (find (numbered n) b.buys) refl h
+  where
+    go : (x : Option Order) → find (numbered n) b.buys ≡ x → option_or x (find (numbered n) b.sells) ≡ Some o → o.number ≡ n
+    go (Some x) e k = (spot n b.buys o (e ∙ k)).number
+    go None e k = (spot n b.sells o k).number
 
 -- no order has a number that was taken out
 without_none : (n : ℕ) (xs : List Order) → times n (without n xs) ≡ 0

@@ -1,5 +1,5 @@
--- A call by the rules leaves no number above the last arrival, and no more orders than arrivals.
-use Rattle.std.proofs.Common.{◌≡◌, ℕ, suc, ◌+◌, ◌<◌, ◌≤◌, Bool, true, false, cond, ◌==◌, List, refl, sym, ap, ◌∙◌, arith, ⊎_elim, zero-add}
+-- A day that is kept is kept after any call by the rules.
+use Rattle.std.proofs.Common.{◌≡◌, ℕ, suc, ◌+◌, ◌<◌, ◌≤◌, Bool, true, false, cond, ◌==◌, List, refl, sym, ap, ◌∙◌, arith, ⊎_elim, zero-add, subst, Some, is_some}
 use Rattle.std.proofs.lemmas.Bool.{cond_both, both_ways, ne_eqb, cases_lt}
 use Rattle.rules.specs.Rank.{before}
 use Rattle.rules.specs.Side.{opposite}
@@ -8,28 +8,27 @@ use Rattle.rules.specs.declared.order.Direction.TheVariants.{Buy, Sell}
 use Rattle.rules.specs.declared.order.Order.{Order}
 use Rattle.rules.specs.declared.terms.Terms.{Terms}
 use Rattle.tables.specs.Listing.{numbered, times, insert, with_volume, without}
-use Rattle.tables.specs.Meaning.{Contents, Sound, listed, holding, book_of, each_side, held, takes, put_in, added, removed}
+use Rattle.tables.specs.Meaning.{Contents, Sound, listed, holding, book_of, each_side, lookup, held, takes, put_in, added, removed}
 use Rattle.tables.proofs.Keeps.{held_none}
 use Rattle.tables.proofs.Numbers.{counted-insert}
 use Rattle.tables.proofs.Ranking.{length-insert}
-use Rattle.book.specs.Rules.{next}
-use Rattle.market.specs.Follow.{stage_after}
 use Rattle.book.specs.declared.call.Call.{Call}
 use Rattle.book.specs.declared.stage.Stage.{Stage}
 use Rattle.book.specs.Rows.{is_open, strikes, orders_of}
-use Rattle.book.specs.Day.{Day, Made, Outcome, refused_by, done, entering, altered, alter_tally, moves, trades_again, re_entered, entered, Swept, sweep, sweep_of, dealt, placed, step, Paired, limits, fixing_price, fixing_trades, struck_book}
+use Rattle.book.specs.Day.{Day, Made, entering, alter, altered, alter_tally, moves, trades_again, entered, Swept, sweep, sweep_of, dealt, placed, step, strike, Paired, limits, fixing_price, fixing_trades}
+use Rattle.book.specs.Model.{moved}
 use Rattle.book.proofs.Gate.{of_step}
 use Rattle.book.proofs.Sided.{length-without}
 use Rattle.market.specs.Fills.{with_listed}
-use Rattle.market.specs.Outcome.{Kept, day_at}
+use Rattle.market.specs.Kept.{Kept}
 use Rattle.market.proofs.Altering.{Held, looked_up}
 use Rattle.market.proofs.Keeping.{Part, part_same, sweep_part, match_part, limits_part, without_part, part_trans}
 use Rattle.market.proofs.Taking.{is_held}
 
 -- a part of the orders of c
-record Fewer (x c : Contents) : Type 0 where
-  orders : orders_of x ≤ orders_of c
-  numbers : (m : ℕ) → times m x.book.buys + times m x.book.sells ≤ times m c.book.buys + times m c.book.sells
+pub record Fewer (x c : Contents) : Type 0 where
+  pub orders : orders_of x ≤ orders_of c
+  pub numbers : (m : ℕ) → times m x.book.buys + times m x.book.sells ≤ times m c.book.buys + times m c.book.sells
 
 fewer_same : (c : Contents) → Fewer c c
 fewer_same c = record { orders = omega arith; numbers = λ m. omega arith }
@@ -42,7 +41,7 @@ of_side : (c : Contents) (d : Direction) (xs : List Order) → Part xs (listed d
 of_side c Buy xs h = of_parts c xs c.book.sells h (part_same c.book.sells)
 of_side c Sell xs h = of_parts c c.book.buys xs (part_same c.book.buys) h
 
-removed_fewer : (n : ℕ) (c : Contents) → Fewer (removed n c) c
+pub removed_fewer : (n : ℕ) (c : Contents) → Fewer (removed n c) c
 removed_fewer n c =
     cond_both (held n c.book) (holding c (each_side (without n) c.book)) c (λ (x : Contents). Fewer x c)
     (λ _. of_parts c (without n c.book.buys) (without n c.book.sells) (without_part n c.book.buys) (without_part n c.book.sells))
@@ -76,41 +75,6 @@ put_times d e x m ne = go d
     go Buy = ap (λ n. n + times m x.book.sells) (other (before Buy) x.book.buys)
     go Sell = ap (λ n. times m x.book.buys + n) (other (before Sell) x.book.sells)
 
-module _ (tally tally' : ℕ) (c : Contents) (h : Kept tally c) (later : tally ≤ tally') (most : tally' ≤ 1000000) where
-  kept_fewer : (x : Contents) → Fewer x c → Kept tally' x
-  kept_fewer x f =
-      record {
-        most = most;
-        fewer = omega (arith, later, h.fewer, f.orders);
-        known = λ n lt. omega (arith, f.numbers n, h.known n (omega (arith, lt, later)));
-      }
-
-  kept_added : (x : Contents) (e : Order) → Fewer x c → e.number ≤ tally' → orders_of x + 1 ≤ tally' → Kept tally' (added e x)
-  kept_added x e f below room =
-      cond_both (takes x e) (put_in e x) x (Kept tally')
-      (λ _.
-      record {
-        most = most;
-        fewer = omega (arith, put_orders e.direction e x, room);
-        known = λ n lt. put_times e.direction e x n (λ q. omega (arith, q, below, lt)) ∙ omega (arith, f.numbers n, h.known n (omega (arith, lt, later)));
-      })
-      (λ _. kept_fewer x f)
-
-  kept_placed : (x : Contents) (e : Order) (v : ℕ) → Fewer x c → e.number ≤ tally' → orders_of x + 1 ≤ tally' → Kept tally' (placed e v x)
-  kept_placed x e v f below room =
-      cond_both (v == 0) x (added (with_volume v e) x) (Kept tally') (λ _. kept_fewer x f) (λ _. kept_added x (with_volume v e) f below room)
-
--- Of an outcome ------------------------------------------------------------------------------------------------------------
-
--- the arrivals and the table after it are kept, and the stage is this
-pub record Right (stage : Stage) (day : Day) : Type 0 where
-  pub kept : Kept day.tally day.table
-  pub staged : day.stage ≡ stage
-
-abbrev pub Fine : Stage → Outcome → Type 0
-Fine stage (refused_by n) = Unit {0}
-Fine stage (done day a slips) = Right stage day
-
 fewer_trans : (x y z : Contents) → Fewer x y → Fewer y z → Fewer x z
 fewer_trans x y z h k =
     record { orders = omega (arith, h.orders, k.orders); numbers = λ m. omega (arith, h.numbers m, k.numbers m) }
@@ -118,62 +82,94 @@ fewer_trans x y z h k =
 dealt_fewer : (d : Direction) (n p v : ℕ) (x : Contents) → Fewer (dealt d (sweep d n p (listed (opposite d) x) v).rest x) x
 dealt_fewer d n p v x = of_side x (opposite d) _ (sweep_part d n p (listed (opposite d) x) v)
 
--- an order enters, with a number that is given
-module _ (tally tally' : ℕ) (c : Contents) (h : Kept tally c) (later : tally ≤ tally') (most : tally' ≤ 1000000) where
-  kept_entered : (trades : Bool) (x : Contents) (e : Order) → Fewer x c → e.number ≤ tally' → orders_of x + 1 ≤ tally' → Kept tally' (entered trades e x).table
-  kept_entered true x e f below room =
-      let s : Swept = sweep_of e x in
-      let g : Fewer (dealt e.direction s.rest x) x = dealt_fewer e.direction e.number e.price e.volume x in
-      let k : Fewer (dealt e.direction s.rest x) c = fewer_trans _ x c g f in
-      cond_both e.market _ _ (Kept tally')
-      (λ _. kept_fewer tally tally' c h later most (dealt e.direction s.rest x) k)
-      (λ _. kept_placed tally tally' c h later most (dealt e.direction s.rest x) e s.left k below (omega (arith, g.orders, room)))
-  kept_entered false x e f below room = kept_added tally tally' c h later most x e f below room
+-- a day that is kept, with as many arrivals or more, and another table
+module _ (day : Day) (h : Kept day) (stage : Stage) (tally : ℕ) (later : day.tally ≤ tally) (most : tally ≤ 1000000) where
+  abbrev Keeps : Contents → Type 0
+  Keeps x = Kept (record { stage = stage; tally = tally; table = x })
 
-module _ (stage : Stage) (tally : ℕ) (c : Contents) (h : Kept tally c) (s : Sound c) where
-  alter_kept : (price volume : ℕ) (o : Order) → held o.number c.book ≡ true → tally < 1000000 → Kept (alter_tally tally price volume o) (re_entered stage tally c price volume o).table
+  kept_fewer : (x : Contents) → Fewer x day.table → Keeps x
+  kept_fewer x f =
+      record {
+        most = most;
+        fewer = omega (arith, later, h.fewer, f.orders);
+        known = λ n lt. omega (arith, f.numbers n, h.known n (omega (arith, lt, later)));
+      }
+
+  module _ (e : Order) (below : e.number ≤ tally) where
+    kept_added : (v : ℕ) (x : Contents) → Fewer x day.table → orders_of x + 1 ≤ tally → Keeps (added (with_volume v e) x)
+    kept_added v x f room =
+        cond_both (takes x (with_volume v e)) (put_in (with_volume v e) x) x Keeps
+        (λ _.
+        record {
+          most = most;
+          fewer = omega (arith, put_orders e.direction (with_volume v e) x, room);
+          known =
+              λ n lt.
+              put_times e.direction (with_volume v e) x n (λ q. omega (arith, q, below, lt)) ∙ omega (arith, f.numbers n, h.known n (omega (arith, lt, later)));
+        })
+        (λ _. kept_fewer x f)
+
+    -- an order enters, with a number that is given
+    kept_entered : (trades : Bool) (x : Contents) → Fewer x day.table → orders_of x + 1 ≤ tally → Keeps (entered trades e x).table
+    kept_entered true x f room =
+        let s : Swept = sweep_of e x in
+        let y : Contents = dealt e.direction s.rest x in
+        let g : Fewer y x = dealt_fewer e.direction e.number e.price e.volume x in
+        let k : Fewer y day.table = fewer_trans y x day.table g f in
+        cond_both e.market y (placed e s.left y) Keeps
+        (λ _. kept_fewer y k)
+        (λ _. cond_both (s.left == 0) y (added (with_volume s.left e) y) Keeps (λ _. kept_fewer y k) (λ _. kept_added s.left y k (omega (arith, g.orders, room))))
+    kept_entered false x f room = kept_added e.volume x f room
+
+module _ (day : Day) (h : Kept day) where
+  alter_kept : (price volume : ℕ) (o : Order) → held o.number day.table.book ≡ true → day.tally < 1000000 → Kept (alter day price volume o).day
   alter_kept price volume o there lt =
-      let x : Contents = removed o.number c in
-      let one : orders_of x + 1 ≤ orders_of c = removed_one o.number c there in
-      let tally' : ℕ = alter_tally tally price volume o in
-      let later : tally ≤ tally' = cond_both (moves price volume o) (suc tally) tally (λ k. tally ≤ k) (λ _. omega arith) (λ _. omega arith) in
-      let most : tally' ≤ 1000000 = cond_both (moves price volume o) (suc tally) tally (λ k. k ≤ 1000000) (λ _. omega (arith, lt)) (λ _. omega (arith, lt)) in
-      let below : o.number ≤ tally =
-      ⊎_elim (λ (k : tally < o.number). absurd (both_ways true (sym there ∙ held_none c.book o.number (h.known o.number k)) refl)) (λ (k : o.number ≤ tally). k)
-      (cases_lt tally o.number)
+      let x : Contents = removed o.number day.table in
+      let one : orders_of x + 1 ≤ orders_of day.table = removed_one o.number day.table there in
+      let tally : ℕ = alter_tally day.tally price volume o in
+      let later : day.tally ≤ tally = cond_both (moves price volume o) (suc day.tally) day.tally (λ k. day.tally ≤ k) (λ _. omega arith) (λ _. omega arith) in
+      let most : tally ≤ 1000000 = cond_both (moves price volume o) (suc day.tally) day.tally (λ k. k ≤ 1000000) (λ _. omega (arith, lt)) (λ _. omega (arith, lt)) in
+      let below : o.number ≤ day.tally =
+      ⊎_elim (λ (k : day.tally < o.number). absurd (both_ways true (sym there ∙ held_none day.table.book o.number (h.known o.number k)) refl)) (λ (k : o.number ≤ day.tally). k)
+      (cases_lt day.tally o.number)
       in
-      kept_entered tally tally' c h later most (trades_again stage price o) x (altered tally price volume o) (removed_fewer o.number c)
-      (omega (arith, below, later)) (omega (arith, one, h.fewer, later))
+      kept_entered day h day.stage tally later most (altered day.tally price volume o) (omega (arith, below, later)) (trades_again day.stage price o) x
+      (removed_fewer o.number day.table)
+      (omega (arith, one, h.fewer, later))
 
-  strike_kept : (t : Terms) → Kept tally (holding c (struck_book (fixing_trades t c.book)))
+  pub kept_as_many : (stage : Stage) (x : Contents) → Fewer x day.table → Kept (record { stage = stage; tally = day.tally; table = x })
+  kept_as_many stage x f = kept_fewer day h stage day.tally (omega arith) h.most x f
+
+  strike_kept : (t : Terms) → Kept (strike t day).day
   strike_kept t =
-      let m : Paired = fixing_trades t c.book in
-      let p = match_part (fixing_price t c.book) c.book.buys c.book.sells in
-      kept_fewer tally tally c h (omega arith) h.most (holding c (struck_book m))
-      (of_parts c (limits m.buys) (limits m.sells) (part_trans _ m.buys _ (limits_part m.buys) p.0) (part_trans _ m.sells _ (limits_part m.sells) p.1))
+      let b = day.table.book in
+      let m : Paired = fixing_trades t b in
+      let p = match_part (fixing_price t b) b.buys b.sells in
+      kept_as_many (strike t day).day.stage (strike t day).day.table
+      (of_parts day.table (limits m.buys) (limits m.sells) (part_trans _ m.buys _ (limits_part m.buys) p.0) (part_trans _ m.sells _ (limits_part m.sells) p.1))
 
-  pub step_fine : (t : Terms) (call : Call) (room : ℕ) → Fine (stage_after stage call) (step t (day_at stage tally c) call room)
-  step_fine t call room =
-      of_step t (day_at stage tally c) room (λ call out. Fine (stage_after stage call) out)
+  kept_step : Sound day.table → (t : Terms) (call : Call) (room : ℕ) → Kept (moved day (step t day call room))
+  kept_step s t call room =
+      of_step t day room (λ call out. Kept (moved day out))
       (record {
-        refused = λ call n. tt;
+        refused = λ call n. h;
         entered =
             λ member d limit volume k.
-            record {
-              kept =
-                  kept_entered tally (suc tally) c h (omega arith) (omega (arith, k.given)) (is_open stage) c (entering t (suc tally) member d limit volume)
-                  (fewer_same c) (omega arith) (omega (arith, h.fewer));
-              staged = refl;
-            };
+            let e : Order = entering t (suc day.tally) member d limit volume in
+            kept_entered day h day.stage (suc day.tally) (omega arith) (omega (arith, k.given)) e (omega arith) (is_open day.stage) day.table (fewer_same day.table)
+            (omega (arith, h.fewer));
         altered =
             λ member n price volume o k.
-            let at : Held n c o = looked_up n c s o k.found in
-            record { kept = alter_kept price volume o (is_held c s o.direction at.rank o at.there) k.given; staged = refl };
-        withdrawn =
-            λ member n o _.
-            record { kept = kept_fewer tally tally c h (omega arith) h.most (removed o.number c) (removed_fewer o.number c); staged = refl };
-        advanced =
-            λ _.
-            cond_both (strikes stage) _ _ (λ (m : Made). Right (next stage) m.day)
-            (λ _. record { kept = strike_kept t; staged = refl }) (λ _. record { kept = h; staged = refl });
+            let at : Held n day.table o = looked_up n day.table s o k.found in
+            alter_kept price volume o (is_held day.table s o.direction at.rank o at.there) k.given;
+        withdrawn = λ member n o _. kept_as_many day.stage (removed o.number day.table) (removed_fewer o.number day.table);
+        advanced = λ _. cond_both (strikes day.stage) _ _ (λ (m : Made). Kept m.day) (λ _. strike_kept t) (λ _. kept_as_many _ day.table (fewer_same day.table));
       }) call
+
+-- the same of the day after, if v is the day before
+module _ (v : Day) (h : Kept v) (day : Day) (same : v ≡ day) where
+  pub kept_after : Sound v.table → (t : Terms) (call : Call) (room : ℕ) (after : Day) → after ≡ moved day (step t day call room) → Kept after
+  kept_after s t call room after e = subst Kept (sym e) (subst (λ d. Kept (moved d (step t d call room))) same (kept_step v h s t call room))
+
+  pub kept_changed : (price volume : ℕ) (o : Order) → lookup o.number day.table.book ≡ Some o → day.tally < 1000000 → (after : Day) → after ≡ (alter day price volume o).day → Kept after
+  kept_changed price volume o found given after e = subst Kept (sym e) (alter_kept day (subst Kept same h) price volume o (ap is_some found) given)

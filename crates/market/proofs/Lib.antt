@@ -8,5 +8,6 @@ pub mod Pairing
 pub mod Lapsing
 pub mod Following
 pub mod Holding
+pub mod Stepping
 pub mod Working
 pub mod Journals

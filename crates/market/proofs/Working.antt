@@ -5,23 +5,19 @@ use Rattle.std.proofs.lemmas.Bool.{both_ways}
 use Rattle.std.proofs.lemmas.List.{length-append, length-drop}
 use Rattle.rules.specs.declared.reference.DayRecord.{DayRecord}
 use Rattle.rules.specs.declared.terms.Terms.{Terms}
-use Rattle.tables.specs.Meaning.{Contents, Sound}
 use Rattle.book.specs.declared.answer.Answer.{Answer}
 use Rattle.book.specs.declared.call.Call.{Call}
 use Rattle.book.specs.declared.slip.Slip.{Slip}
-use Rattle.book.specs.declared.stage.Stage.{Stage}
-use Rattle.book.specs.Day.{Outcome, refused_by, done, step}
+use Rattle.book.specs.Day.{Day, Outcome, refused_by, done, step}
 use Rattle.book.specs.Law.{accepted}
 use Rattle.book.specs.Leads.{GoesOn, outcome}
-use Rattle.book.specs.Marks.{Session, worked, marked}
+use Rattle.book.specs.Marks.{worked, marks_after}
 use Rattle.book.specs.Model.{moved, result}
 use Rattle.book.specs.Room.{FitsRun}
 use Rattle.book.proofs.Leading.{going_on}
 use Rattle.book.proofs.Rooms.{room_stands}
-use Rattle.market.specs.Follow.{stage_after, followed}
-use Rattle.market.specs.Outcome.{Kept, day_at, written_into, answered, tally_after, table_after, run_after}
-use Rattle.market.specs.Works.{Seen, seen, trial, Worked, came_to, worked_by, works, counted, verdict, line_of, Lawfully}
-use Rattle.market.proofs.Holding.{Fine, step_fine}
+use Rattle.market.specs.Outcome.{written_into, answered, run_after}
+use Rattle.market.specs.Works.{Seen, trial, Worked, came_to, worked_by, works, counted, verdict, line_of, Lawfully}
 
 abbrev is_ok : Result Answer ℕ → Bool
 is_ok (Ok a) = true
@@ -70,59 +66,42 @@ module _ (s : Seen) (call : Call) (run : List Slip) where
         (subst (λ v. GoesOn s.terms cap s.session (record { asked = trial call run; came = record { result = v; book = (moved s.session.day came).table.book } }) (worked s.terms call s.session came)) (sym (verdict_is run came fit))
         (going_on s.terms cap s.session (trial call run)))
 
--- Of what a call makes of the parts of a session ------------------------------------------------------------------------------
+-- Of what a call makes of a session ------------------------------------------------------------------------------------------
 
-abbrev session_of : Stage → ℕ → DayRecord → Contents → Session
-session_of stage tally m c = record { day = record { stage = stage; tally = tally; table = c }; marks = m }
+abbrev pub session_of : Terms → Day → DayRecord → Seen
+session_of t day m = record { terms = t; session = record { day = day; marks = m } }
 
-module _ (t : Terms) (stage : Stage) (tally : ℕ) (m : DayRecord) (c : Contents) (h : Kept tally c) (s : Sound c) (call : Call) (run : List Slip) where
+module _ (t : Terms) (day : Day) (m : DayRecord) (call : Call) (run : List Slip) where
   abbrev out : Outcome
-  out = step t (day_at stage tally c) call (length run)
+  out = step t day call (length run)
 
   abbrev before : Seen
-  before = record { terms = t; session = session_of stage tally m c }
+  before = session_of t day m
 
-  abbrev at : Stage → ℕ → Contents → Seen
-  at stage' tally' c' = record { terms = t; session = session_of stage' tally' m c' }
-
-  fine : Fine (stage_after stage call) out
-  fine = step_fine stage tally c h s t call (length run)
-
-  module _ (tally' : ℕ) (c' : Contents) (run' : List Slip) (et : tally' ≡ tally_after tally out) (ec : c' ≡ table_after c out) (er : run' ≡ run_after run out) where
-    pub kept_after : Kept tally' c'
-    kept_after = subst (λ x. Kept x c') (sym et) (subst (Kept (tally_after tally out)) (sym ec) (go out fine))
-      where
-        go : (o : Outcome) → Fine (stage_after stage call) o → Kept (tally_after tally o) (table_after c o)
-        go (refused_by n) f = h
-        go (done day a slips) f = f.kept
-
+  module _ (day' : Day) (run' : List Slip) (ed : day' ≡ moved day out) (er : run' ≡ run_after run out) where
     -- a refusal leaves the session as it was
-    pub refused_is : (n : ℕ) → Err n ≡ answered out → came_to (Err n) (at stage tally' c') run' ≡ works before call run
-    refused_is n ea = go out ea et ec er
+    pub refused_is : (n : ℕ) → Err n ≡ answered out → came_to (Err n) (session_of t day' m) run' ≡ works before call run
+    refused_is n ea = go out ea ed er
       where
-        go : (o : Outcome) → Err n ≡ answered o → tally' ≡ tally_after tally o → c' ≡ table_after c o → run' ≡ run_after run o → came_to (Err n) (at stage tally' c') run' ≡ worked_by before call run o
-        go (refused_by k) ea et ec er = λ i. came_to (ea i) (at stage (et i) (ec i)) (er i)
-        go (done day b slips) ea et ec er = absurd (both_ways true (sym (ap is_ok ea)) refl)
+        go : (o : Outcome) → Err n ≡ answered o → day' ≡ moved day o → run' ≡ run_after run o → came_to (Err n) (session_of t day' m) run' ≡ worked_by before call run o
+        go (refused_by k) ea ed er = λ i. came_to (ea i) (session_of t (ed i) m) (er i)
+        go (done d b slips) ea ed er = absurd (both_ways true (sym (ap is_ok ea)) refl)
 
     module _ (a : Answer) (ea : Ok a ≡ answered out) where
       pub done_fits : a.slips ≤ length run'
-      done_fits = go out ea er (room_stands t (day_at stage tally c) call (length run))
+      done_fits = go out ea er (room_stands t day call (length run))
         where
           go : (o : Outcome) → Ok a ≡ answered o → run' ≡ run_after run o → FitsRun (length run) o → a.slips ≤ length run'
           go (refused_by k) ea er f = absurd (both_ways true (ap is_ok ea) refl)
-          go (done day b slips) ea er f =
+          go (done d b slips) ea er f =
               subst (λ z. a.slips ≤ length z) (sym er) (room_for run slips a.slips (ap counted ea ∙ f.0) f.1)
 
-      pub done_is : came_to (Ok a) (seen t (followed t c' call (take a.slips run') (record { stage = stage; tally = tally'; day = m })) c') run' ≡ works before call run
-      done_is = go out ea et ec er fine (room_stands t (day_at stage tally c) call (length run))
+      pub done_is : (m' : DayRecord) → m' ≡ marks_after t day.stage call m (take a.slips run') day'.table.book → came_to (Ok a) (session_of t day' m') run' ≡ works before call run
+      done_is m' em = ap (λ k. came_to (Ok a) (session_of t day' k) run') em ∙ go out ea ed er (room_stands t day call (length run))
         where
-          after : Result Answer ℕ → ℕ → Contents → List Slip → Worked
-          after r n x ss = came_to r (seen t (followed t x call (take (counted r) ss) (record { stage = stage; tally = n; day = m })) x) ss
-
-          go : (o : Outcome) → Ok a ≡ answered o → tally' ≡ tally_after tally o → c' ≡ table_after c o → run' ≡ run_after run o → Fine (stage_after stage call) o → FitsRun (length run) o →
-              came_to (Ok a) (seen t (followed t c' call (take a.slips run') (record { stage = stage; tally = tally'; day = m })) c') run' ≡ worked_by before call run o
-          go (refused_by k) ea et ec er f r = absurd (both_ways true (ap is_ok ea) refl)
-          go (done day b slips) ea et ec er f r =
-              (λ i. after (ea i) (et i) (ec i) (er i))
-              ∙ ap (λ ss. came_to (Ok b) (seen t (followed t day.table call ss (record { stage = stage; tally = day.tally; day = m })) day.table) (written_into run slips)) (taken run b slips r.0)
-              ∙ ap (λ st. came_to (Ok b) (record { terms = t; session = record { day = record { stage = st; tally = day.tally; table = day.table }; marks = marked t stage call m (done day b slips) } }) (written_into run slips)) (sym f.staged)
+          go : (o : Outcome) → Ok a ≡ answered o → day' ≡ moved day o → run' ≡ run_after run o → FitsRun (length run) o →
+              came_to (Ok a) (session_of t day' (marks_after t day.stage call m (take a.slips run') day'.table.book)) run' ≡ worked_by before call run o
+          go (refused_by k) ea ed er f = absurd (both_ways true (ap is_ok ea) refl)
+          go (done d b slips) ea ed er f =
+              (λ i. came_to (ea i) (session_of t (ed i) (marks_after t day.stage call m (take (counted (ea i)) (er i)) (ed i).table.book)) (er i))
+              ∙ ap (λ ss. came_to (Ok b) (session_of t d (marks_after t day.stage call m ss d.table.book)) (written_into run slips)) (taken run b slips f.0)

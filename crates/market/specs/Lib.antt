@@ -1,6 +1,6 @@
 pub mod Fills
 pub mod Covering
 pub mod Outcome
-pub mod Follow
+pub mod Kept
 pub mod Works
 pub mod Journaled

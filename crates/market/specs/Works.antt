@@ -1,7 +1,7 @@
 -- What a session means, and what a call makes of it, by the rules.
 use Rattle.std.specs.Prelude.{◌≡◌, ℕ, List, take, length, Ok, Err, Result}
 use Rattle.rules.specs.declared.terms.Terms.{Terms}
-use Rattle.tables.specs.Meaning.{Capacity, Contents}
+use Rattle.tables.specs.Meaning.{Capacity}
 use Rattle.book.specs.declared.answer.Answer.{Answer}
 use Rattle.book.specs.declared.call.Call.{Call}
 use Rattle.book.specs.declared.slip.Slip.{Slip}
@@ -11,19 +11,12 @@ use Rattle.book.specs.Law.{Try, Verdict, refused, accepted}
 use Rattle.book.specs.Ending.{reference_by}
 use Rattle.book.specs.Leads.{outcome, Leads, GoesOn}
 use Rattle.book.specs.Marks.{Session, begun, worked}
-use Rattle.market.specs.declared.state.State.{State}
 use Rattle.market.specs.Outcome.{answered, run_after}
 
 -- what a session means: its terms, and its day with what the next reference price needs
 pub record Seen : Type 0 where
   pub terms : Terms
   pub session : Session
-
-abbrev pub session_at : State → Contents → Session
-session_at s c = record { day = record { stage = s.stage; tally = s.tally; table = c }; marks = s.day }
-
-abbrev pub seen : Terms → State → Contents → Seen
-seen t s c = record { terms = t; session = session_at s c }
 
 -- a session that begins
 abbrev pub opened : Terms → Capacity → Seen

@@ -7,15 +7,16 @@ ghost use Rattle.tables.specs.Listing.{with_volume};
 ghost use Rattle.tables.specs.Meaning.{listed, lookup, added, removed};
 ghost use Rattle.book.specs.declared.call.Call.TheVariants.{Alter, Withdraw};
 ghost use Rattle.book.specs.Rows.{is_open};
-ghost use Rattle.book.specs.Day.{entered, re_entered, alter_tally};
+ghost use Rattle.book.specs.declared.slip.Slip.{Slip};
+ghost use Rattle.book.specs.Day.{entered, re_entered, alter as altering, step};
+ghost use Rattle.book.specs.Model.{moved};
 ghost use Rattle.market.specs.Fills.{fill_of};
-ghost use Rattle.market.specs.Outcome.{Kept, told, outcome_at, answered, tally_after, table_after, run_after, written_into};
+ghost use Rattle.market.specs.Outcome.{told, answered, run_after, written_into};
 
+use crate::day::Day;
 use crate::entries::{Fill, let_in};
-use crate::rows::{check_alter, check_withdraw};
 use book::answer::{Answer, Told};
 use book::slip::Slip;
-use book::stage::Stage;
 use rules::order::Order;
 use rules::refusal::Refusal;
 use rules::terms::Terms;
@@ -32,11 +33,18 @@ pub struct Wanted {
 
 // An order leaves its place and enters again; it trades first, if it is to.
 fn enter_again<T: Table>(table: &mut T, order: Order, trades: bool, run: &mut [Slip]) -> Fill
-    requires stands { ((o : Order) × (lookup order.number (T.Table.contents table.old).book ≡ Some o) × (o.direction ≡ order.direction)) }
-    requires long { trades ≡ true → length (listed (opposite order.direction) (T.Table.contents table.old)) < length run.old }
-    ensures fill { result ≡ fill_of (entered trades order (removed order.number (T.Table.contents table.old))) }
-    ensures table { T.Table.contents table.new ≡ (entered trades order (removed order.number (T.Table.contents table.old))).table }
-    ensures run { run.new ≡ written_into run.old (entered trades order (removed order.number (T.Table.contents table.old))).slips }
+    requires stands { ((o : Order)
+        × (lookup order.number (T.Table.contents table.old).book ≡ Some o)
+        × (o.direction ≡ order.direction)) }
+    requires long { trades ≡ true
+        → length (listed (opposite order.direction) (T.Table.contents table.old))
+        < length run.old }
+    ensures fill { let out = removed order.number (T.Table.contents table.old) in
+        result ≡ fill_of (entered trades order out) }
+    ensures table { let out = removed order.number (T.Table.contents table.old) in
+        T.Table.contents table.new ≡ (entered trades order out).table }
+    ensures run { let out = removed order.number (T.Table.contents table.old) in
+        run.new ≡ written_into run.old (entered trades order out).slips }
 {
     let Ok(()) = table.remove(order.number) else {
         unreachable!()
@@ -49,7 +57,8 @@ fn keep_place<T: Table>(table: &mut T, order: &Order, volume: u32)
     requires some { 0 < volume }
     requires most { volume ≤ order.now.volume }
     requires found { lookup order.now.number (T.Table.contents table.old).book ≡ Some order.now }
-    ensures { T.Table.contents table.new ≡ added (with_volume volume order.now) (removed order.now.number (T.Table.contents table.old)) }
+    ensures { let out = removed order.now.number (T.Table.contents table.old) in
+        T.Table.contents table.new ≡ added (with_volume volume order.now) out }
 {
     if volume < order.volume {
         let Ok(()) = table.set_volume(order.number, volume) else {
@@ -62,7 +71,11 @@ fn keep_place<T: Table>(table: &mut T, order: &Order, volume: u32)
 fn renewed(tally: &mut u32, order: &Order, wanted: &Wanted) -> Order
     requires { tally.old < 1000000 }
     ensures tally { tally.new ≡ tally.old + 1 }
-    ensures order { result ≡ record { number = order.now.number; member = order.now.member; direction = order.now.direction; price = wanted.now.price; market = order.now.market; volume = wanted.now.volume; arrival = tally.old + 1 } }
+    ensures order { result ≡ record order.now {
+      price = wanted.now.price;
+      volume = wanted.now.volume;
+      arrival = tally.old + 1;
+    } }
 {
     *tally += 1;
     Order {
@@ -73,84 +86,83 @@ fn renewed(tally: &mut u32, order: &Order, wanted: &Wanted) -> Order
     }
 }
 
-// Another price or a greater volume takes a new arrival, and another price trades in Open; a smaller volume keeps its
-// place; with neither changed the order stays as it is.
-fn change<T: Table>(
-    stage: Stage,
-    tally: &mut u32,
-    table: &mut T,
-    order: Order,
-    wanted: Wanted,
-    run: &mut [Slip],
-) -> Fill
-    requires given { tally.old < 1000000 }
-    requires some { 0 < wanted.volume }
-    requires found { lookup order.number (T.Table.contents table.old).book ≡ Some order }
-    requires long { is_open stage ≡ true → length (listed (opposite order.direction) (T.Table.contents table.old)) < length run.old }
-    ensures tally { tally.new ≡ alter_tally tally.old wanted.price wanted.volume order }
-    ensures fill { result ≡ fill_of (re_entered stage tally.old (T.Table.contents table.old) wanted.price wanted.volume order) }
-    ensures table { T.Table.contents table.new ≡ (re_entered stage tally.old (T.Table.contents table.old) wanted.price wanted.volume order).table }
-    ensures run { run.new ≡ written_into run.old (re_entered stage tally.old (T.Table.contents table.old) wanted.price wanted.volume order).slips }
-{
-    match (order, wanted) {
-        (o, w) if w.price != o.price => {
-            enter_again(table, renewed(tally, &o, &w), stage.is_open(), run)
-        }
-        (o, w) if w.volume > o.volume => { enter_again(table, renewed(tally, &o, &w), false, run) }
-        (o, w) => {
-            keep_place(table, &o, w.volume);
-            Fill {
-                traded: 0,
-                held: w.volume,
-                written: 0,
+impl<T: Table> Day<T> {
+    // Another price or a greater volume takes a new arrival, and another price trades in Open; a
+    // smaller volume keeps its place; with neither changed the order stays as it is.
+    fn change(&mut self, order: Order, wanted: Wanted, run: &mut [Slip]) -> Fill
+        requires given { self.old.tally < 1000000 }
+        requires some { 0 < wanted.volume }
+        requires found { lookup order.number self.old.table.book ≡ Some order }
+        requires long { is_open self.old.stage ≡ true
+            → length (listed (opposite order.direction) self.old.table) < length run.old }
+        ensures day { self.new ≡ (altering self.old wanted.price wanted.volume order).day }
+        ensures fill { let day = self.old in
+            result
+            ≡ fill_of (re_entered day.stage day.tally day.table wanted.price wanted.volume order) }
+        ensures run { run.new
+            ≡ written_into run.old (altering self.old wanted.price wanted.volume order).slips }
+    {
+        match (order, wanted) {
+            (o, w) if w.price != o.price => {
+                let again = renewed(&mut self.tally, &o, &w);
+                enter_again(&mut self.table, again, self.stage.is_open(), run)
+            }
+            (o, w) if w.volume > o.volume => {
+                let again = renewed(&mut self.tally, &o, &w);
+                enter_again(&mut self.table, again, false, run)
+            }
+            (o, w) => {
+                keep_place(&mut self.table, &o, w.volume);
+                Fill {
+                    traded: 0,
+                    held: w.volume,
+                    written: 0,
+                }
             }
         }
     }
-}
 
-pub fn alter<T: Table>(
-    terms: &Terms,
-    stage: Stage,
-    tally: &mut u32,
-    table: &mut T,
-    wanted: Wanted,
-    run: &mut [Slip],
-) -> Result<Answer, Refusal>
-    requires { Kept tally.old (T.Table.contents table.old) }
-    ensures answer { told result ≡ answered (outcome_at terms.now stage tally.old (T.Table.contents table.old) (Alter wanted.member wanted.number wanted.price wanted.volume) (length run.old)) }
-    ensures tally { tally.new ≡ tally_after tally.old (outcome_at terms.now stage tally.old (T.Table.contents table.old) (Alter wanted.member wanted.number wanted.price wanted.volume) (length run.old)) }
-    ensures table { T.Table.contents table.new ≡ table_after (T.Table.contents table.old) (outcome_at terms.now stage tally.old (T.Table.contents table.old) (Alter wanted.member wanted.number wanted.price wanted.volume) (length run.old)) }
-    ensures run { run.new ≡ run_after run.old (outcome_at terms.now stage tally.old (T.Table.contents table.old) (Alter wanted.member wanted.number wanted.price wanted.volume) (length run.old)) }
-{
-    let order = check_alter(terms, stage, *tally, table, wanted, run.len())?;
-    let fill = change(stage, tally, table, order, wanted, run);
-    let told = Told::Altered {
-        traded: fill.traded,
-        held: fill.held,
-    };
-    Ok(Answer {
-        told,
-        slips: fill.written,
-    })
-}
+    pub fn alter(
+        &mut self,
+        terms: &Terms,
+        wanted: Wanted,
+        run: &mut [Slip],
+    ) -> Result<Answer, Refusal>
+        ensures answer { let call = Alter wanted.member wanted.number wanted.price wanted.volume in
+            told result ≡ answered (step terms.now self.old call (length run.old)) }
+        ensures day { let call = Alter wanted.member wanted.number wanted.price wanted.volume in
+            self.new ≡ moved self.old (step terms.now self.old call (length run.old)) }
+        ensures run { let call = Alter wanted.member wanted.number wanted.price wanted.volume in
+            run.new ≡ run_after run.old (step terms.now self.old call (length run.old)) }
+    {
+        let order = self.check_alter(terms, wanted, run.len())?;
+        let fill = self.change(order, wanted, run);
+        let told = Told::Altered {
+            traded: fill.traded,
+            held: fill.held,
+        };
+        Ok(Answer {
+            told,
+            slips: fill.written,
+        })
+    }
 
-pub fn withdraw<T: Table>(
-    stage: Stage,
-    table: &mut T,
-    member: u32,
-    number: u32,
-) -> Result<Answer, Refusal>
-    ensures answer { (t : Terms) (tally room : ℕ) → told result ≡ answered (outcome_at t stage tally (T.Table.contents table.old) (Withdraw member number) room) }
-    ensures tally { (t : Terms) (tally room : ℕ) → tally ≡ tally_after tally (outcome_at t stage tally (T.Table.contents table.old) (Withdraw member number) room) }
-    ensures table { (t : Terms) (tally room : ℕ) → T.Table.contents table.new ≡ table_after (T.Table.contents table.old) (outcome_at t stage tally (T.Table.contents table.old) (Withdraw member number) room) }
-    ensures run { (t : Terms) (tally : ℕ) (run : List Slip) → run ≡ run_after run (outcome_at t stage tally (T.Table.contents table.old) (Withdraw member number) (length run)) }
-{
-    let order = check_withdraw(stage, table, member, number)?;
-    let Ok(()) = table.remove(number) else {
-        unreachable!()
-    };
-    let told = Told::Withdrawn {
-        volume: order.volume,
-    };
-    Ok(Answer { told, slips: 0 })
+    // Needs no terms, and writes no slip.
+    pub fn withdraw(&mut self, member: u32, number: u32) -> Result<Answer, Refusal>
+        ensures answer { (terms : Terms) (room : ℕ) →
+            told result ≡ answered (step terms self.old (Withdraw member number) room) }
+        ensures day { (terms : Terms) (room : ℕ) →
+            self.new ≡ moved self.old (step terms self.old (Withdraw member number) room) }
+        ensures run { (terms : Terms) (run : List Slip) →
+            run ≡ run_after run (step terms self.old (Withdraw member number) (length run)) }
+    {
+        let order = self.check_withdraw(member, number)?;
+        let Ok(()) = self.table.remove(number) else {
+            unreachable!()
+        };
+        let told = Told::Withdrawn {
+            volume: order.volume,
+        };
+        Ok(Answer { told, slips: 0 })
+    }
 }

@@ -17,7 +17,8 @@ pub struct TableCurve<'a, T: Table> {
 
 // What the order at a rank of a side offers at p; past the last order nothing.
 fn offered_on<S: Quotes, T: Table>(table: &T, rank: usize, p: u32) -> u32
-    ensures { result ≡ offered_by S.Quotes.way p (slice_get (listed S.Quotes.way (T.Table.contents table.now)) rank) }
+    ensures { let orders = listed S.Quotes.way (T.Table.contents table.now) in
+        result ≡ offered_by S.Quotes.way p (slice_get orders rank) }
 {
     match table.at(S::direction(), rank) {
         Some(o) if S::willing(o.price, p) => o.volume,
@@ -39,7 +40,7 @@ fn depth_on<S: Quotes, T: Table>(table: &T, p: u32) -> u128
 impl<'a, T: Table> Curve for TableCurve<'a, T> {
     ghost book = { λ h. (T.Table.contents h.table.now).book };
 
-    ghost orders = { λ h. (T.Table.contents h.table.now).book.buys ++ (T.Table.contents h.table.now).book.sells };
+    ghost orders = { λ h. let b = (T.Table.contents h.table.now).book in b.buys ++ b.sells };
 
     ghost covers = { λ h. both_cover (T.Table.contents h.table.now).book };
 

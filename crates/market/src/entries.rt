@@ -3,15 +3,16 @@ ghost use Rattle.std.specs.Prelude.{◌≡◌, ◌<◌, true, length};
 ghost use Rattle.rules.specs.Side.{opposite};
 ghost use Rattle.tables.specs.Meaning.{listed, takes};
 ghost use Rattle.book.specs.declared.call.Call.TheVariants.{Enter};
-ghost use Rattle.book.specs.Day.{limit_price as price_for, entering, lapse_left, held_left as held_of, stand_left, arrived, entered};
+ghost use Rattle.book.specs.Day.{limit_price as price_for, entering, lapse_left};
+ghost use Rattle.book.specs.Day.{held_left as held_of, stand_left, arrived, entered, step};
+ghost use Rattle.book.specs.Model.{moved};
 ghost use Rattle.market.specs.Fills.{fill_of};
-ghost use Rattle.market.specs.Outcome.{Kept, told, outcome_at, answered, tally_after, table_after, run_after, written_into};
+ghost use Rattle.market.specs.Outcome.{told, answered, run_after, written_into};
 
+use crate::day::Day;
 use crate::fills::sweep;
-use crate::rows::check_enter;
 use book::answer::{Answer, Told};
 use book::slip::Slip;
-use book::stage::Stage;
 use rules::order::{Direction, Order};
 use rules::refusal::Refusal;
 use rules::side::{Buys, Sells, Side};
@@ -49,7 +50,8 @@ fn limit_price(terms: &Terms, direction: Direction, limit: Option<u32>) -> u32
 
 // The order that an entry makes with the arrival, which is its number too.
 fn order_of(terms: &Terms, arrival: u32, entry: NewOrder) -> Order
-    ensures { result ≡ entering terms.now arrival entry.member entry.direction entry.limit entry.volume }
+    ensures { result
+        ≡ entering terms.now arrival entry.member entry.direction entry.limit entry.volume }
 {
     Order {
         number: arrival,
@@ -69,12 +71,14 @@ fn held_left(order: &Order, left: u32) -> u32
     if order.market { 0 } else { left }
 }
 
-// What is left of an order after its sweep: a limit order stands, a market order lapses. The slips written.
+// What is left of an order after its sweep: a limit order stands, a market order lapses. The slips
+// written.
 fn settle<T: Table>(table: &mut T, order: &Order, left: u32, run: &mut [Slip]) -> usize
     requires room { takes (T.Table.contents table.old) order.now ≡ true }
     requires place { 0 < length run.old }
     ensures written { result ≡ length (lapse_left order.now left) }
-    ensures table { T.Table.contents table.new ≡ stand_left order.now left (T.Table.contents table.old) }
+    ensures table { T.Table.contents table.new
+        ≡ stand_left order.now left (T.Table.contents table.old) }
     ensures run { run.new ≡ written_into run.old (lapse_left order.now left) }
 {
     if left == 0 {
@@ -100,10 +104,13 @@ fn settle<T: Table>(table: &mut T, order: &Order, left: u32, run: &mut [Slip]) -
 fn arrive_on<S: Side, T: Table>(table: &mut T, order: Order, run: &mut [Slip]) -> Fill
     requires side { order.direction ≡ S.Quotes.way }
     requires room { takes (T.Table.contents table.old) order ≡ true }
-    requires long { length (listed (opposite order.direction) (T.Table.contents table.old)) < length run.old }
+    requires long { length (listed (opposite order.direction) (T.Table.contents table.old))
+        < length run.old }
     ensures fill { result ≡ fill_of (arrived order (T.Table.contents table.old)) }
-    ensures table { T.Table.contents table.new ≡ (arrived order (T.Table.contents table.old)).table }
-    ensures run { run.new ≡ written_into run.old (arrived order (T.Table.contents table.old)).slips }
+    ensures table { T.Table.contents table.new
+        ≡ (arrived order (T.Table.contents table.old)).table }
+    ensures run { run.new
+        ≡ written_into run.old (arrived order (T.Table.contents table.old)).slips }
 {
     let swept = sweep::<S, T>(table, &order, run);
     let lapsed = settle(table, &order, swept.left, &mut run[swept.written..]);
@@ -117,10 +124,13 @@ fn arrive_on<S: Side, T: Table>(table: &mut T, order: Order, run: &mut [Slip]) -
 // Here the side of an order goes from a value to a type.
 pub fn arrive<T: Table>(table: &mut T, order: Order, run: &mut [Slip]) -> Fill
     requires room { takes (T.Table.contents table.old) order ≡ true }
-    requires long { length (listed (opposite order.direction) (T.Table.contents table.old)) < length run.old }
+    requires long { length (listed (opposite order.direction) (T.Table.contents table.old))
+        < length run.old }
     ensures fill { result ≡ fill_of (arrived order (T.Table.contents table.old)) }
-    ensures table { T.Table.contents table.new ≡ (arrived order (T.Table.contents table.old)).table }
-    ensures run { run.new ≡ written_into run.old (arrived order (T.Table.contents table.old)).slips }
+    ensures table { T.Table.contents table.new
+        ≡ (arrived order (T.Table.contents table.old)).table }
+    ensures run { run.new
+        ≡ written_into run.old (arrived order (T.Table.contents table.old)).slips }
 {
     match order.direction {
         Direction::Buy => arrive_on::<Buys, T>(table, order, run),
@@ -131,10 +141,14 @@ pub fn arrive<T: Table>(table: &mut T, order: Order, run: &mut [Slip]) -> Fill
 // An order enters: it trades first, if it is to.
 pub fn let_in<T: Table>(table: &mut T, order: Order, trades: bool, run: &mut [Slip]) -> Fill
     requires room { takes (T.Table.contents table.old) order ≡ true }
-    requires long { trades ≡ true → length (listed (opposite order.direction) (T.Table.contents table.old)) < length run.old }
+    requires long { trades ≡ true
+        → length (listed (opposite order.direction) (T.Table.contents table.old))
+        < length run.old }
     ensures fill { result ≡ fill_of (entered trades order (T.Table.contents table.old)) }
-    ensures table { T.Table.contents table.new ≡ (entered trades order (T.Table.contents table.old)).table }
-    ensures run { run.new ≡ written_into run.old (entered trades order (T.Table.contents table.old)).slips }
+    ensures table { T.Table.contents table.new
+        ≡ (entered trades order (T.Table.contents table.old)).table }
+    ensures run { run.new
+        ≡ written_into run.old (entered trades order (T.Table.contents table.old)).slips }
 {
     if trades {
         return arrive(table, order, run);
@@ -149,31 +163,32 @@ pub fn let_in<T: Table>(table: &mut T, order: Order, trades: bool, run: &mut [Sl
     }
 }
 
-pub fn enter<T: Table>(
-    terms: &Terms,
-    stage: Stage,
-    tally: &mut u32,
-    table: &mut T,
-    entry: NewOrder,
-    run: &mut [Slip],
-) -> Result<Answer, Refusal>
-    requires { Kept tally.old (T.Table.contents table.old) }
-    ensures answer { told result ≡ answered (outcome_at terms.now stage tally.old (T.Table.contents table.old) (Enter entry.member entry.direction entry.limit entry.volume) (length run.old)) }
-    ensures tally { tally.new ≡ tally_after tally.old (outcome_at terms.now stage tally.old (T.Table.contents table.old) (Enter entry.member entry.direction entry.limit entry.volume) (length run.old)) }
-    ensures table { T.Table.contents table.new ≡ table_after (T.Table.contents table.old) (outcome_at terms.now stage tally.old (T.Table.contents table.old) (Enter entry.member entry.direction entry.limit entry.volume) (length run.old)) }
-    ensures run { run.new ≡ run_after run.old (outcome_at terms.now stage tally.old (T.Table.contents table.old) (Enter entry.member entry.direction entry.limit entry.volume) (length run.old)) }
-{
-    check_enter(terms, stage, *tally, table, entry, run.len())?;
-    *tally += 1;
-    let order = order_of(terms, *tally, entry);
-    let fill = let_in(table, order, stage.is_open(), run);
-    let told = Told::Entered {
-        number: order.number,
-        traded: fill.traded,
-        held: fill.held,
-    };
-    Ok(Answer {
-        told,
-        slips: fill.written,
-    })
+impl<T: Table> Day<T> {
+    pub fn enter(
+        &mut self,
+        terms: &Terms,
+        entry: NewOrder,
+        run: &mut [Slip],
+    ) -> Result<Answer, Refusal>
+        ensures answer { let call = Enter entry.member entry.direction entry.limit entry.volume in
+            told result ≡ answered (step terms.now self.old call (length run.old)) }
+        ensures day { let call = Enter entry.member entry.direction entry.limit entry.volume in
+            self.new ≡ moved self.old (step terms.now self.old call (length run.old)) }
+        ensures run { let call = Enter entry.member entry.direction entry.limit entry.volume in
+            run.new ≡ run_after run.old (step terms.now self.old call (length run.old)) }
+    {
+        self.check_enter(terms, entry, run.len())?;
+        self.tally += 1;
+        let order = order_of(terms, self.tally, entry);
+        let fill = let_in(&mut self.table, order, self.stage.is_open(), run);
+        let told = Told::Entered {
+            number: order.number,
+            traded: fill.traded,
+            held: fill.held,
+        };
+        Ok(Answer {
+            told,
+            slips: fill.written,
+        })
+    }
 }

@@ -52,8 +52,8 @@ fn enter_line<T: Table>(
     })
 }
 
-// Starts a session over the table and works the calls in turn, each over the whole run. Every entry of the journal is
-// lawful against the ledger of the entries before it.
+// Starts a session over the table and works the calls in turn, each over the whole run. Every entry
+// of the journal is lawful against the ledger of the entries before it.
 pub fn work_all<T: Table>(
     heap: Global,
     terms: Terms,
@@ -63,7 +63,9 @@ pub fn work_all<T: Table>(
 ) -> Result<(Vec<Entry>, Session<T>), AllocError>
 where
     T: Drop,
-    ensures journal { IfOk result (λ r. Journaled terms (T.Table.contents table).capacity calls.now (length run.old) r.0.items r.1) }
+    ensures journal { IfOk result (λ r.
+        Journaled terms (T.Table.contents table).capacity calls.now (length run.old)
+        r.0.items r.1) }
     ensures run { IfOk result (λ r. run.new ≡ run_through run.old r.0.items) }
     ensures empty { length calls.now ≡ 0 → IsOk result }
 {

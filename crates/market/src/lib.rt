@@ -4,12 +4,13 @@
 mod advances;
 mod alters;
 mod curve;
+mod day;
 mod entries;
 mod fills;
 pub mod journal;
+mod marks;
 mod rows;
 pub mod session;
-mod state;
 mod strikes;
 #[cfg(test)]
 mod tests;

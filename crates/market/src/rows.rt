@@ -1,11 +1,14 @@
-// The rows of the refusals that look at the session or its table, and the rows of each call.
-ghost use Rattle.std.specs.Prelude.{◌≡◌, ◌≤◌};
+// The rows of the refusals that look at the day, and the rows of each call.
+ghost use Rattle.std.specs.Prelude.{◌≡◌};
 ghost use Rattle.rules.specs.Entry.{answer};
 ghost use Rattle.tables.specs.Meaning.{lookup};
-ghost use Rattle.book.specs.Rows.{closed_row, limit_row, market_row, arrivals_row, side_row, where_row, is_open, run_row, orders_of, owned, entry_rows, enter_rows, order_rows, altering, withdrawing, advance_rows};
+ghost use Rattle.book.specs.Rows.{closed_row, limit_row, market_row, arrivals_row, side_row};
+ghost use Rattle.book.specs.Rows.{where_row, is_open, run_row, orders_of, owned, entry_rows};
+ghost use Rattle.book.specs.Rows.{enter_rows, order_rows, altering, withdrawing, advance_rows};
 ghost use Rattle.market.specs.Outcome.{told};
 
 use crate::alters::Wanted;
+use crate::day::Day;
 use crate::entries::NewOrder;
 use book::stage::Stage;
 use rules::entry::{check_member, check_price, check_volume};
@@ -42,75 +45,6 @@ fn check_arrivals(tally: u32) -> Result<(), Refusal>
     Ok(())
 }
 
-fn check_side<T: Table>(table: &T, direction: Direction) -> Result<(), Refusal>
-    ensures { answer result ≡ side_row direction (T.Table.contents table.now) }
-{
-    if table.count(direction) >= table.places() {
-        return Err(Refusal::SideFull);
-    }
-    Ok(())
-}
-
-// Trading in Open may write a slip for each order of the other side, and one more.
-fn check_run<T: Table>(
-    table: &T,
-    stage: Stage,
-    direction: Direction,
-    room: usize,
-) -> Result<(), Refusal>
-    ensures { answer result ≡ where_row (is_open stage) (run_row room direction (T.Table.contents table.now)) }
-{
-    match stage {
-        Stage::Open if room <= table.count(direction.opposite()) => Err(Refusal::RunTooShort),
-        _ => Ok(()),
-    }
-}
-
-// What an enter and an alter are asked alike, before anything is looked up.
-fn check_entry(
-    terms: &Terms,
-    stage: Stage,
-    member: u32,
-    limit: Option<u32>,
-    volume: u32,
-) -> Result<(), Refusal>
-    ensures { answer result ≡ entry_rows terms.now stage member limit volume }
-{
-    check_stage(stage)?;
-    check_member(member)?;
-    check_volume(terms, volume)?;
-    check_limit(terms, limit)?;
-    Ok(())
-}
-
-pub fn check_enter<T: Table>(
-    terms: &Terms,
-    stage: Stage,
-    tally: u32,
-    table: &T,
-    entry: NewOrder,
-    room: usize,
-) -> Result<(), Refusal>
-    ensures { answer result ≡ enter_rows terms.now stage tally (T.Table.contents table.now) entry.member entry.direction entry.limit entry.volume room }
-{
-    check_entry(terms, stage, entry.member, entry.limit, entry.volume)?;
-    check_arrivals(tally)?;
-    check_side(table, entry.direction)?;
-    check_run(table, stage, entry.direction, room)?;
-    Ok(())
-}
-
-// The order with a number, if it is held for the member.
-fn find_owned<T: Table>(table: &T, member: u32, number: u32) -> Result<Order, Refusal>
-    ensures { told result ≡ owned member (lookup number (T.Table.contents table.now).book) }
-{
-    match table.find(number) {
-        None => Err(Refusal::NotHeld),
-        Some(order) if member == order.member => Ok(order),
-        Some(_) => Err(Refusal::NotOwner),
-    }
-}
-
 // A market order is not altered.
 fn check_market(order: &Order) -> Result<(), Refusal>
     ensures { answer result ≡ market_row order.now }
@@ -121,67 +55,118 @@ fn check_market(order: &Order) -> Result<(), Refusal>
     Ok(())
 }
 
-// The rows of an alter that look at the order that it names.
-fn check_order<T: Table>(
-    stage: Stage,
-    tally: u32,
-    table: &T,
-    order: &Order,
-    room: usize,
-) -> Result<(), Refusal>
-    ensures { answer result ≡ order_rows stage tally (T.Table.contents table.now) room order.now }
-{
-    check_market(order)?;
-    check_arrivals(tally)?;
-    check_run(table, stage, order.direction, room)?;
-    Ok(())
-}
-
-// The order that is to be altered.
-pub fn check_alter<T: Table>(
-    terms: &Terms,
-    stage: Stage,
-    tally: u32,
-    table: &T,
-    wanted: Wanted,
-    room: usize,
-) -> Result<Order, Refusal>
-    ensures { told result ≡ altering terms.now stage tally (T.Table.contents table.now) wanted.member wanted.number wanted.price wanted.volume room }
-{
-    check_entry(
-        terms,
-        stage,
-        wanted.member,
-        Some(wanted.price),
-        wanted.volume,
-    )?;
-    let order = find_owned(table, wanted.member, wanted.number)?;
-    check_order(stage, tally, table, &order, room)?;
-    Ok(order)
-}
-
-// The order that is to be withdrawn.
-pub fn check_withdraw<T: Table>(
-    stage: Stage,
-    table: &T,
-    member: u32,
-    number: u32,
-) -> Result<Order, Refusal>
-    ensures { told result ≡ withdrawing stage (T.Table.contents table.now) member number }
-{
-    check_stage(stage)?;
-    check_member(member)?;
-    find_owned(table, member, number)
-}
-
-// A strike may write a slip for each order held.
-pub fn check_advance<T: Table>(stage: Stage, table: &T, room: usize) -> Result<(), Refusal>
-    requires { orders_of (T.Table.contents table.now) ≤ 1000000 }
-    ensures { answer result ≡ advance_rows stage (T.Table.contents table.now) room }
-{
-    check_stage(stage)?;
-    if stage.strikes() && room < table.count(Direction::Buy) + table.count(Direction::Sell) {
-        return Err(Refusal::RunTooShort);
+impl<T: Table> Day<T> {
+    fn check_side(&self, direction: Direction) -> Result<(), Refusal>
+        ensures { answer result ≡ side_row direction self.now.table }
+    {
+        if self.table.count(direction) >= self.table.places() {
+            return Err(Refusal::SideFull);
+        }
+        Ok(())
     }
-    Ok(())
+
+    // Trading in Open may write a slip for each order of the other side, and one more.
+    fn check_run(&self, direction: Direction, room: usize) -> Result<(), Refusal>
+        ensures { answer result
+            ≡ where_row (is_open self.now.stage) (run_row room direction self.now.table) }
+    {
+        match self.stage {
+            Stage::Open if room <= self.table.count(direction.opposite()) => {
+                Err(Refusal::RunTooShort)
+            }
+            _ => Ok(()),
+        }
+    }
+
+    // What an enter and an alter are asked alike, before anything is looked up.
+    fn check_entry(
+        &self,
+        terms: &Terms,
+        member: u32,
+        limit: Option<u32>,
+        volume: u32,
+    ) -> Result<(), Refusal>
+        ensures { answer result ≡ entry_rows terms.now self.now.stage member limit volume }
+    {
+        check_stage(self.stage)?;
+        check_member(member)?;
+        check_volume(terms, volume)?;
+        check_limit(terms, limit)?;
+        Ok(())
+    }
+
+    pub fn check_enter(&self, terms: &Terms, entry: NewOrder, room: usize) -> Result<(), Refusal>
+        ensures { let day = self.now in
+            answer result
+            ≡ enter_rows terms.now day.stage day.tally day.table
+            entry.member entry.direction entry.limit entry.volume room }
+    {
+        self.check_entry(terms, entry.member, entry.limit, entry.volume)?;
+        check_arrivals(self.tally)?;
+        self.check_side(entry.direction)?;
+        self.check_run(entry.direction, room)?;
+        Ok(())
+    }
+
+    // The order with a number, if it is held for the member.
+    fn find_owned(&self, member: u32, number: u32) -> Result<Order, Refusal>
+        ensures { told result ≡ owned member (lookup number self.now.table.book) }
+    {
+        match self.table.find(number) {
+            None => Err(Refusal::NotHeld),
+            Some(order) if member == order.member => Ok(order),
+            Some(_) => Err(Refusal::NotOwner),
+        }
+    }
+
+    // The rows of an alter that look at the order that it names.
+    fn check_order(&self, order: &Order, room: usize) -> Result<(), Refusal>
+        ensures { answer result
+            ≡ order_rows self.now.stage self.now.tally self.now.table room order.now }
+    {
+        check_market(order)?;
+        check_arrivals(self.tally)?;
+        self.check_run(order.direction, room)?;
+        Ok(())
+    }
+
+    // The order that is to be altered.
+    pub fn check_alter(&self, terms: &Terms, wanted: Wanted, room: usize) -> Result<Order, Refusal>
+        ensures { let day = self.now in
+            told result
+            ≡ altering terms.now day.stage day.tally day.table
+            wanted.member wanted.number wanted.price wanted.volume room }
+    {
+        self.check_entry(terms, wanted.member, Some(wanted.price), wanted.volume)?;
+        let order = self.find_owned(wanted.member, wanted.number)?;
+        self.check_order(&order, room)?;
+        Ok(order)
+    }
+
+    // The order that is to be withdrawn.
+    pub fn check_withdraw(&self, member: u32, number: u32) -> Result<Order, Refusal>
+        ensures { told result ≡ withdrawing self.now.stage self.now.table member number }
+    {
+        check_stage(self.stage)?;
+        check_member(member)?;
+        self.find_owned(member, number)
+    }
+
+    // How many orders are held.
+    fn orders(&self) -> usize
+        ensures { result ≡ orders_of self.now.table }
+    {
+        self.table.count(Direction::Buy) + self.table.count(Direction::Sell)
+    }
+
+    // A strike may write a slip for each order held.
+    pub fn check_advance(&self, room: usize) -> Result<(), Refusal>
+        ensures { answer result ≡ advance_rows self.now.stage self.now.table room }
+    {
+        check_stage(self.stage)?;
+        if self.stage.strikes() && room < self.orders() {
+            return Err(Refusal::RunTooShort);
+        }
+        Ok(())
+    }
 }

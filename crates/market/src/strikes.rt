@@ -4,7 +4,9 @@ ghost use Rattle.rules.specs.declared.order.Order.{Order};
 ghost use Rattle.book.specs.declared.slip.Slip.{Slip};
 ghost use Rattle.tables.specs.Meaning.{listed, holding, book_of, each_side};
 ghost use Rattle.book.specs.Rows.{orders_of};
-ghost use Rattle.book.specs.Day.{fixing_price, fixing_trades, match_at, turnover, going_slips, staying, lapse as lapse_of, lapses, limits, strike_slips, struck_book};
+ghost use Rattle.book.specs.Day.{fixing_price, fixing_trades, match_at, turnover, going_slips};
+ghost use Rattle.book.specs.Day.{staying, lapse as lapse_of, lapses, limits, strike_slips};
+ghost use Rattle.book.specs.Day.{struck_book};
 ghost use Rattle.market.specs.Fills.{with_listed};
 ghost use Rattle.market.specs.Outcome.{written_into};
 
@@ -37,10 +39,15 @@ fn price_of<T: Table>(terms: &Terms, table: &T) -> Option<u32>
 fn pair<T: Table>(table: &mut T, price: u32, run: &mut [Slip]) -> (u128, usize)
     requires room { orders_of (T.Table.contents table.old) ≤ length run.old }
     requires few { orders_of (T.Table.contents table.old) ≤ 1000000 }
-    ensures traded { result.0 ≡ turnover (match_at (Some price) (T.Table.contents table.old).book.buys (T.Table.contents table.old).book.sells).slips }
-    ensures written { result.1 ≡ length (match_at (Some price) (T.Table.contents table.old).book.buys (T.Table.contents table.old).book.sells).slips }
-    ensures table { T.Table.contents table.new ≡ holding (T.Table.contents table.old) (book_of (match_at (Some price) (T.Table.contents table.old).book.buys (T.Table.contents table.old).book.sells).buys (match_at (Some price) (T.Table.contents table.old).book.buys (T.Table.contents table.old).book.sells).sells) }
-    ensures run { run.new ≡ written_into run.old (match_at (Some price) (T.Table.contents table.old).book.buys (T.Table.contents table.old).book.sells).slips }
+    ensures traded { let old = (T.Table.contents table.old).book in
+        result.0 ≡ turnover (match_at (Some price) old.buys old.sells).slips }
+    ensures written { let old = (T.Table.contents table.old).book in
+        result.1 ≡ length (match_at (Some price) old.buys old.sells).slips }
+    ensures table { let old = T.Table.contents table.old in
+        let paired = match_at (Some price) old.book.buys old.book.sells in
+        T.Table.contents table.new ≡ holding old (book_of paired.buys paired.sells) }
+    ensures run { let old = (T.Table.contents table.old).book in
+        run.new ≡ written_into run.old (match_at (Some price) old.buys old.sells).slips }
 {
     let mut traded: u128 = 0;
     let mut written = 0;
@@ -108,9 +115,17 @@ fn let_go<L: Leaving, T: Table>(
 ) -> usize
     requires room { length (listed direction (T.Table.contents table.old)) ≤ length run.old }
     requires few { length (listed direction (T.Table.contents table.old)) ≤ 1000000 }
-    ensures written { result ≡ length (going_slips (L.Leaving.goes leaving.now) (L.Leaving.slip leaving.now) (listed direction (T.Table.contents table.old))) }
-    ensures table { T.Table.contents table.new ≡ with_listed direction (staying (L.Leaving.goes leaving.now) (listed direction (T.Table.contents table.old))) (T.Table.contents table.old) }
-    ensures run { run.new ≡ written_into run.old (going_slips (L.Leaving.goes leaving.now) (L.Leaving.slip leaving.now) (listed direction (T.Table.contents table.old))) }
+    ensures written { let goes = L.Leaving.goes leaving.now in
+        let slip = L.Leaving.slip leaving.now in
+        result ≡ length (going_slips goes slip (listed direction (T.Table.contents table.old))) }
+    ensures table { let goes = L.Leaving.goes leaving.now in
+        let old = T.Table.contents table.old in
+        T.Table.contents table.new
+        ≡ with_listed direction (staying goes (listed direction old)) old }
+    ensures run { let goes = L.Leaving.goes leaving.now in
+        let slip = L.Leaving.slip leaving.now in
+        let old = listed direction (T.Table.contents table.old) in
+        run.new ≡ written_into run.old (going_slips goes slip old) }
 {
     let mut written = 0;
     let mut rank = 0;
@@ -133,8 +148,10 @@ fn lapse<T: Table>(table: &mut T, direction: Direction, run: &mut [Slip]) -> usi
     requires room { length (listed direction (T.Table.contents table.old)) ≤ length run.old }
     requires few { length (listed direction (T.Table.contents table.old)) ≤ 1000000 }
     ensures written { result ≡ length (lapses (listed direction (T.Table.contents table.old))) }
-    ensures table { T.Table.contents table.new ≡ with_listed direction (limits (listed direction (T.Table.contents table.old))) (T.Table.contents table.old) }
-    ensures run { run.new ≡ written_into run.old (lapses (listed direction (T.Table.contents table.old))) }
+    ensures table { let old = T.Table.contents table.old in
+        T.Table.contents table.new ≡ with_listed direction (limits (listed direction old)) old }
+    ensures run { run.new
+        ≡ written_into run.old (lapses (listed direction (T.Table.contents table.old))) }
 {
     let_go(&Lapsing {}, table, direction, run)
 }
@@ -143,10 +160,15 @@ fn lapse<T: Table>(table: &mut T, direction: Direction, run: &mut [Slip]) -> usi
 fn pair_at<T: Table>(table: &mut T, price: Option<u32>, run: &mut [Slip]) -> (u128, usize)
     requires room { orders_of (T.Table.contents table.old) ≤ length run.old }
     requires few { orders_of (T.Table.contents table.old) ≤ 1000000 }
-    ensures traded { result.0 ≡ turnover (match_at price (T.Table.contents table.old).book.buys (T.Table.contents table.old).book.sells).slips }
-    ensures written { result.1 ≡ length (match_at price (T.Table.contents table.old).book.buys (T.Table.contents table.old).book.sells).slips }
-    ensures table { T.Table.contents table.new ≡ holding (T.Table.contents table.old) (book_of (match_at price (T.Table.contents table.old).book.buys (T.Table.contents table.old).book.sells).buys (match_at price (T.Table.contents table.old).book.buys (T.Table.contents table.old).book.sells).sells) }
-    ensures run { run.new ≡ written_into run.old (match_at price (T.Table.contents table.old).book.buys (T.Table.contents table.old).book.sells).slips }
+    ensures traded { let old = (T.Table.contents table.old).book in
+        result.0 ≡ turnover (match_at price old.buys old.sells).slips }
+    ensures written { let old = (T.Table.contents table.old).book in
+        result.1 ≡ length (match_at price old.buys old.sells).slips }
+    ensures table { let old = T.Table.contents table.old in
+        let paired = match_at price old.book.buys old.book.sells in
+        T.Table.contents table.new ≡ holding old (book_of paired.buys paired.sells) }
+    ensures run { let old = (T.Table.contents table.old).book in
+        run.new ≡ written_into run.old (match_at price old.buys old.sells).slips }
 {
     match price {
         Some(p) => pair(table, p, run),
@@ -158,9 +180,12 @@ fn pair_at<T: Table>(table: &mut T, price: Option<u32>, run: &mut [Slip]) -> (u1
 fn lapse_both<T: Table>(table: &mut T, run: &mut [Slip]) -> usize
     requires room { orders_of (T.Table.contents table.old) ≤ length run.old }
     requires few { orders_of (T.Table.contents table.old) ≤ 1000000 }
-    ensures written { result ≡ length (lapses (T.Table.contents table.old).book.buys ++ lapses (T.Table.contents table.old).book.sells) }
-    ensures table { T.Table.contents table.new ≡ holding (T.Table.contents table.old) (each_side limits (T.Table.contents table.old).book) }
-    ensures run { run.new ≡ written_into run.old (lapses (T.Table.contents table.old).book.buys ++ lapses (T.Table.contents table.old).book.sells) }
+    ensures written { let old = (T.Table.contents table.old).book in
+        result ≡ length (lapses old.buys ++ lapses old.sells) }
+    ensures table { let old = T.Table.contents table.old in
+        T.Table.contents table.new ≡ holding old (each_side limits old.book) }
+    ensures run { let old = (T.Table.contents table.old).book in
+        run.new ≡ written_into run.old (lapses old.buys ++ lapses old.sells) }
 {
     let buys = lapse(table, Direction::Buy, run);
     buys + lapse(table, Direction::Sell, &mut run[buys..])
@@ -171,10 +196,14 @@ pub fn strike<T: Table>(terms: &Terms, table: &mut T, run: &mut [Slip]) -> Struc
     requires room { orders_of (T.Table.contents table.old) ≤ length run.old }
     requires few { orders_of (T.Table.contents table.old) ≤ 1000000 }
     ensures price { result.price ≡ fixing_price terms.now (T.Table.contents table.old).book }
-    ensures traded { result.traded ≡ turnover (strike_slips (fixing_trades terms.now (T.Table.contents table.old).book)) }
-    ensures written { result.written ≡ length (strike_slips (fixing_trades terms.now (T.Table.contents table.old).book)) }
-    ensures table { T.Table.contents table.new ≡ holding (T.Table.contents table.old) (struck_book (fixing_trades terms.now (T.Table.contents table.old).book)) }
-    ensures run { run.new ≡ written_into run.old (strike_slips (fixing_trades terms.now (T.Table.contents table.old).book)) }
+    ensures traded { let trades = fixing_trades terms.now (T.Table.contents table.old).book in
+        result.traded ≡ turnover (strike_slips trades) }
+    ensures written { let trades = fixing_trades terms.now (T.Table.contents table.old).book in
+        result.written ≡ length (strike_slips trades) }
+    ensures table { let old = T.Table.contents table.old in
+        T.Table.contents table.new ≡ holding old (struck_book (fixing_trades terms.now old.book)) }
+    ensures run { let trades = fixing_trades terms.now (T.Table.contents table.old).book in
+        run.new ≡ written_into run.old (strike_slips trades) }
 {
     let price = price_of(terms, table);
     let (traded, trades) = pair_at(table, price, run);

@@ -1,4 +1,4 @@
-use Rattle.std.proofs.Common.{◌≡◌, ◌==◌, true, false, not, ◌||◌, ◌-◌, ◌<◌, [], ◌∷◌, ◌++◌, length, take, Some, None, sym, ap, ◌∙◌, subst, arith, length-set, append-nil}
+use Rattle.std.proofs.Common.{◌≡◌, ℕ, ◌==◌, true, false, not, ◌||◌, ◌-◌, ◌<◌, [], ◌∷◌, ◌++◌, length, take, Some, None, sym, ap, ◌∙◌, subst, arith, length-set, append-nil}
 use Rattle.std.proofs.lemmas.Bool.{eq-eqb, ne_eqb, or_left, or_right, or_from, not_from_true, not_from_false}
 use Rattle.std.proofs.lemmas.List.{take_more_set, length-take-le}
 use Rattle.std.specs.List.{slice_get}
@@ -69,7 +69,7 @@ orders-preserved g c =
       run = same_behind k c.orders.run c.args.run.now inv.run c.trade.result;
       fits = rw length-set (omega (arith, below));
       room = λ q. rw (length-set, rest) (omega (arith, took_length (listed a t) o v m first c.min-volume.ensures q, inv.room (omega arith)));
-      most = omega (arith, inv.most);
+      shared = omega (arith, inv.shared, c.min-volume.ensures);
     }
 
 pub returns : goal.returns
@@ -104,9 +104,12 @@ returns g c =
     let whole : sweep_of c.args.order.now old ≡ after (take k c.orders.run) (still (listed a t) v) =
     ap (λ z. sweep z n p (listed (opposite z) old) c.args.order.now.volume) c.requires.side ∙ inv.sweep ∙ ap (after (take k c.orders.run)) end in
     let slips : take k c.orders.run ≡ (sweep_of c.args.order.now old).slips = sym (ap (λ (s : Swept). s.slips) whole ∙ append-nil (take k c.orders.run)) in
+    let is : c.match-at.traded ≡ (c.orders.traded, v) = elim c.match-at.branch [ in_default w ↦ w.traded-is | in-Some+then-left-eq0 w ↦ w.traded-is ] in
+    let traded = ap (λ (z : ℕ × ℕ). z.0) is in
+    let left = ap (λ (z : ℕ × ℕ). z.1) is in
     record {
-      traded = c.from.ensures;
-      left = sym (ap (λ (s : Swept). s.left) whole);
+      traded = omega (arith, traded, left, inv.shared, c.from.ensures);
+      left = left ∙ sym (ap (λ (s : Swept). s.left) whole);
       written = sym (length-take-le k c.orders.run inv.fits) ∙ ap length slips;
       table = inv.table ∙ ap (λ xs. with_listed a xs old) (sym (ap (λ (s : Swept). s.rest) whole));
       run = written_so_far k c.orders.run c.args.run.now inv.run inv.fits ∙ ap (written_into c.args.run.now) slips;

@@ -17,7 +17,7 @@ invariant-orders g l =
       run : drop l.written l.run ≡ drop l.written l.initial.run;
       fits : l.written ≤ length l.run;
       room : 0 < l.left → l.written + length (listed a (m l.table)) ≤ length l.run;
-      most : l.left ≤ l.order.volume;
+      shared : l.traded + l.left ≡ l.order.volume;
     }
 
 abbrev pub decreases-orders : goal.decreases-orders

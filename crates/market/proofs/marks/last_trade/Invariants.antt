@@ -1,6 +1,6 @@
 use Rattle.std.proofs.Common.{◌≡◌, drop}
 use Rattle.book.specs.Marks.{last_price}
-use Rattle.market.proofs.state.last_trade.Given as goal
+use Rattle.market.proofs.marks.last_trade.Given as goal
 
 -- what is still to come makes the whole
 abbrev pub invariant-loop-slip : goal.invariant-loop-slip

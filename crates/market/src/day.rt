@@ -1,0 +1,111 @@
+// The day of a session, which means the rules' day.
+ghost use Rattle.std.specs.Prelude.{◌≡◌, length};
+ghost use Rattle.book.specs.Day.{step, new as new_day};
+ghost use Rattle.book.specs.Model.{moved};
+ghost use Rattle.market.specs.Outcome.{told, answered, run_after, stage_after};
+
+use crate::alters::Wanted;
+use crate::entries::NewOrder;
+use book::answer::Answer;
+use book::call::Call;
+use book::slip::Slip;
+use book::stage::Stage;
+use rules::refusal::Refusal;
+use rules::terms::Terms;
+use std::marker::Model;
+use tables::table::Table;
+
+#[derive(Drop)]
+pub struct Day<T: Table> {
+    pub stage: Stage,
+    // arrivals given
+    pub tally: u32,
+    pub table: T,
+}
+
+// Its invariant is what lets a new number be free, and the orders be counted.
+impl<T: Table> Model for Day<T> {
+    ghost use Rattle.book.specs.Day.{Day as RulesDay};
+    ghost use Rattle.market.specs.Kept.{Kept};
+
+    ghost Value = { RulesDay };
+
+    ghost view = { λ d.
+        record { stage = d.stage; tally = d.tally; table = T.Table.contents d.table } };
+
+    ghost invariant = { λ d.
+        Kept (record { stage = d.stage; tally = d.tally; table = T.Table.contents d.table }) };
+}
+
+// An advance moves to the next stage.
+pub fn follow(stage: &mut Stage, call: &Call)
+    ensures { stage.new ≡ stage_after stage.old call.now }
+{
+    match (stage, call) {
+        (stage @ Stage::PreOpen, Call::Advance) => *stage = Stage::Open,
+        (stage @ Stage::Open, Call::Advance) => *stage = Stage::PreClose,
+        (stage @ Stage::PreClose, Call::Advance) => *stage = Stage::Closed,
+        _ => {}
+    }
+}
+
+impl<T: Table> Day<T> {
+    // A day owns its table, and clears it.
+    pub fn new(table: T) -> Day<T>
+        ensures { result ≡ new_day (T.Table.contents table).capacity }
+    {
+        let mut table = table;
+        table.clear();
+        Day {
+            stage: Stage::PreOpen,
+            tally: 0,
+            table,
+        }
+    }
+
+    pub fn stage(&self) -> Stage
+        ensures { result ≡ self.now.stage }
+    {
+        self.stage
+    }
+
+    // Works any call.
+    pub fn work(&mut self, terms: &Terms, call: Call, run: &mut [Slip]) -> Result<Answer, Refusal>
+        ensures answer { told result ≡ answered (step terms.now self.old call (length run.old)) }
+        ensures day { self.new ≡ moved self.old (step terms.now self.old call (length run.old)) }
+        ensures run { run.new ≡ run_after run.old (step terms.now self.old call (length run.old)) }
+    {
+        match call {
+            Call::Enter {
+                member,
+                direction,
+                limit,
+                volume,
+            } => {
+                let entry = NewOrder {
+                    member,
+                    direction,
+                    limit,
+                    volume,
+                };
+                self.enter(terms, entry, run)
+            }
+            Call::Alter {
+                member,
+                number,
+                price,
+                volume,
+            } => {
+                let wanted = Wanted {
+                    member,
+                    number,
+                    price,
+                    volume,
+                };
+                self.alter(terms, wanted, run)
+            }
+            Call::Withdraw { member, number } => self.withdraw(member, number),
+            Call::Advance => self.advance(terms, run),
+        }
+    }
+}
