@@ -70,7 +70,7 @@ pub record Enters (t : Terms) (day : Day) (e : NewOrder) (room : ℕ) : Type 0 w
   pub place : length (listed e.direction day.table) < day.table.capacity.places
   pub long : is_open day.stage ≡ true → length (listed (opposite e.direction) day.table) < room
 
-enter_passes : (t : Terms) (day : Day) (e : NewOrder) (room : ℕ) → Passes (enter_rows t day e room) → Enters t day e room
+pub enter_passes : (t : Terms) (day : Day) (e : NewOrder) (room : ℕ) → Passes (enter_rows t day e room) → Enters t day e room
 enter_passes t day e room p =
     record {
       closed = row_false _ 3 p.0;
@@ -90,7 +90,7 @@ pub record Alters (t : Terms) (day : Day) (a : Alteration) (room : ℕ) (o : Ord
   pub given : day.tally < 1000000
   pub long : is_open day.stage ≡ true → length (listed (opposite o.direction) day.table) < room
 
-alter_passes :
+pub alter_passes :
     (t : Terms) (day : Day) (a : Alteration) (room : ℕ) (o : Order) → order_named a.number day ≡ Some o →
     Passes (alter_rows t day a room (Some o)) → Alters t day a room o
 alter_passes t day a room o f p =

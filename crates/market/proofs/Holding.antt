@@ -12,11 +12,14 @@ use Rattle.tables.specs.Meaning.{Contents, Sound, listed, holding, book_of, each
 use Rattle.tables.proofs.Keeps.{held_none}
 use Rattle.tables.proofs.Numbers.{counted-insert}
 use Rattle.tables.proofs.Ranking.{length-insert}
+use Rattle.book.specs.declared.call.Alteration.{Alteration}
 use Rattle.book.specs.declared.call.Call.{Call}
 use Rattle.book.specs.declared.stage.Stage.{Stage}
-use Rattle.book.specs.Rows.{is_open, strikes, orders_of}
-use Rattle.book.specs.Day.{Day, Made, entering, alter, altered, alter_tally, moves, trades_again, entered, Swept, sweep, sweep_of, dealt, placed, step, strike, Paired, limits, fixing_price, fixing_trades}
-use Rattle.book.specs.Model.{moved}
+use Rattle.book.specs.Stages.{is_open, strikes}
+use Rattle.book.specs.Rows.{order_count}
+use Rattle.book.specs.Day.{Day}
+use Rattle.book.specs.Calls.{Made, order_of, alter, altered_order, alter_tally, takes_new_arrival, trades_again, entry_of, Sweep, sweep, sweep_of, with_rest, with_left, step, strike, Pairing, limit_orders, fixing_price, fixing_trades}
+use Rattle.book.specs.Model.{day_after}
 use Rattle.book.proofs.Gate.{of_step}
 use Rattle.book.proofs.Sided.{length-without}
 use Rattle.market.specs.Fills.{with_listed}
@@ -27,7 +30,7 @@ use Rattle.market.proofs.Taking.{is_held}
 
 -- a part of the orders of c
 pub record Fewer (x c : Contents) : Type 0 where
-  pub orders : orders_of x ≤ orders_of c
+  pub orders : order_count x ≤ order_count c
   pub numbers : (m : ℕ) → times m x.book.buys + times m x.book.sells ≤ times m c.book.buys + times m c.book.sells
 
 fewer_same : (c : Contents) → Fewer c c
@@ -48,9 +51,9 @@ removed_fewer n c =
     (λ _. fewer_same c)
 
 -- a number that is held, and one order less without it
-removed_one : (n : ℕ) (c : Contents) → held n c.book ≡ true → orders_of (removed n c) + 1 ≤ orders_of c
+removed_one : (n : ℕ) (c : Contents) → held n c.book ≡ true → order_count (removed n c) + 1 ≤ order_count c
 removed_one n c h =
-    cond_both (held n c.book) (holding c (each_side (without n) c.book)) c (λ (x : Contents). orders_of x + 1 ≤ orders_of c)
+    cond_both (held n c.book) (holding c (each_side (without n) c.book)) c (λ (x : Contents). order_count x + 1 ≤ order_count c)
     (λ _.
     ⊎_elim
     (λ (k : 0 < times n c.book.buys + times n c.book.sells). omega (arith, k, length-without n c.book.buys, length-without n c.book.sells))
@@ -59,7 +62,7 @@ removed_one n c h =
     (cases_lt 0 (times n c.book.buys + times n c.book.sells)))
     (λ k. absurd (both_ways true (sym h ∙ k) refl))
 
-put_orders : (d : Direction) (e : Order) (x : Contents) → orders_of (with_listed d (insert (before d) e (listed d x)) x) ≡ orders_of x + 1
+put_orders : (d : Direction) (e : Order) (x : Contents) → order_count (with_listed d (insert (before d) e (listed d x)) x) ≡ order_count x + 1
 put_orders Buy e x = omega (arith, length-insert (before Buy) e x.book.buys)
 put_orders Sell e x = omega (arith, length-insert (before Sell) e x.book.sells)
 
@@ -79,7 +82,7 @@ fewer_trans : (x y z : Contents) → Fewer x y → Fewer y z → Fewer x z
 fewer_trans x y z h k =
     record { orders = omega (arith, h.orders, k.orders); numbers = λ m. omega (arith, h.numbers m, k.numbers m) }
 
-dealt_fewer : (d : Direction) (n p v : ℕ) (x : Contents) → Fewer (dealt d (sweep d n p (listed (opposite d) x) v).rest x) x
+dealt_fewer : (d : Direction) (n p v : ℕ) (x : Contents) → Fewer (with_rest d (sweep d n p (listed (opposite d) x) v).rest x) x
 dealt_fewer d n p v x = of_side x (opposite d) _ (sweep_part d n p (listed (opposite d) x) v)
 
 -- a day that is kept, with as many arrivals or more, and another table
@@ -96,7 +99,7 @@ module _ (day : Day) (h : Kept day) (stage : Stage) (tally : ℕ) (later : day.t
       }
 
   module _ (e : Order) (below : e.number ≤ tally) where
-    kept_added : (v : ℕ) (x : Contents) → Fewer x day.table → orders_of x + 1 ≤ tally → Keeps (added (with_volume v e) x)
+    kept_added : (v : ℕ) (x : Contents) → Fewer x day.table → order_count x + 1 ≤ tally → Keeps (added (with_volume v e) x)
     kept_added v x f room =
         cond_both (takes x (with_volume v e)) (put_in (with_volume v e) x) x Keeps
         (λ _.
@@ -110,30 +113,30 @@ module _ (day : Day) (h : Kept day) (stage : Stage) (tally : ℕ) (later : day.t
         (λ _. kept_fewer x f)
 
     -- an order enters, with a number that is given
-    kept_entered : (trades : Bool) (x : Contents) → Fewer x day.table → orders_of x + 1 ≤ tally → Keeps (entered trades e x).table
+    kept_entered : (trades : Bool) (x : Contents) → Fewer x day.table → order_count x + 1 ≤ tally → Keeps (entry_of trades e x).table
     kept_entered true x f room =
-        let s : Swept = sweep_of e x in
-        let y : Contents = dealt e.direction s.rest x in
+        let s : Sweep = sweep_of e x in
+        let y : Contents = with_rest e.direction s.rest x in
         let g : Fewer y x = dealt_fewer e.direction e.number e.price e.volume x in
         let k : Fewer y day.table = fewer_trans y x day.table g f in
-        cond_both e.market y (placed e s.left y) Keeps
+        cond_both e.market y (with_left e s.left y) Keeps
         (λ _. kept_fewer y k)
         (λ _. cond_both (s.left == 0) y (added (with_volume s.left e) y) Keeps (λ _. kept_fewer y k) (λ _. kept_added s.left y k (omega (arith, g.orders, room))))
     kept_entered false x f room = kept_added e.volume x f room
 
 module _ (day : Day) (h : Kept day) where
-  alter_kept : (price volume : ℕ) (o : Order) → held o.number day.table.book ≡ true → day.tally < 1000000 → Kept (alter day price volume o).day
-  alter_kept price volume o there lt =
+  alter_kept : (a : Alteration) (o : Order) → held o.number day.table.book ≡ true → day.tally < 1000000 → Kept (alter day a o).day
+  alter_kept a o there lt =
       let x : Contents = removed o.number day.table in
-      let one : orders_of x + 1 ≤ orders_of day.table = removed_one o.number day.table there in
-      let tally : ℕ = alter_tally day.tally price volume o in
-      let later : day.tally ≤ tally = cond_both (moves price volume o) (suc day.tally) day.tally (λ k. day.tally ≤ k) (λ _. omega arith) (λ _. omega arith) in
-      let most : tally ≤ 1000000 = cond_both (moves price volume o) (suc day.tally) day.tally (λ k. k ≤ 1000000) (λ _. omega (arith, lt)) (λ _. omega (arith, lt)) in
+      let one : order_count x + 1 ≤ order_count day.table = removed_one o.number day.table there in
+      let tally : ℕ = alter_tally day.tally a o in
+      let later : day.tally ≤ tally = cond_both (takes_new_arrival a o) (suc day.tally) day.tally (λ k. day.tally ≤ k) (λ _. omega arith) (λ _. omega arith) in
+      let most : tally ≤ 1000000 = cond_both (takes_new_arrival a o) (suc day.tally) day.tally (λ k. k ≤ 1000000) (λ _. omega (arith, lt)) (λ _. omega (arith, lt)) in
       let below : o.number ≤ day.tally =
       ⊎_elim (λ (k : day.tally < o.number). absurd (both_ways true (sym there ∙ held_none day.table.book o.number (h.known o.number k)) refl)) (λ (k : o.number ≤ day.tally). k)
       (cases_lt day.tally o.number)
       in
-      kept_entered day h day.stage tally later most (altered day.tally price volume o) (omega (arith, below, later)) (trades_again day.stage price o) x
+      kept_entered day h day.stage tally later most (altered_order day.tally a o) (omega (arith, below, later)) (trades_again day.stage a o) x
       (removed_fewer o.number day.table)
       (omega (arith, one, h.fewer, later))
 
@@ -143,33 +146,33 @@ module _ (day : Day) (h : Kept day) where
   strike_kept : (t : Terms) → Kept (strike t day).day
   strike_kept t =
       let b = day.table.book in
-      let m : Paired = fixing_trades t b in
+      let m : Pairing = fixing_trades t b in
       let p = match_part (fixing_price t b) b.buys b.sells in
       kept_as_many (strike t day).day.stage (strike t day).day.table
-      (of_parts day.table (limits m.buys) (limits m.sells) (part_trans _ m.buys _ (limits_part m.buys) p.0) (part_trans _ m.sells _ (limits_part m.sells) p.1))
+      (of_parts day.table (limit_orders m.buys) (limit_orders m.sells) (part_trans _ m.buys _ (limits_part m.buys) p.0) (part_trans _ m.sells _ (limits_part m.sells) p.1))
 
-  kept_step : Sound day.table → (t : Terms) (call : Call) (room : ℕ) → Kept (moved day (step t day call room))
+  kept_step : Sound day.table → (t : Terms) (call : Call) (room : ℕ) → Kept (day_after day (step t day call room))
   kept_step s t call room =
-      of_step t day room (λ call out. Kept (moved day out))
+      of_step t day room (λ call out. Kept (day_after day out))
       (record {
         refused = λ call n. h;
-        entered =
-            λ member d limit volume k.
-            let e : Order = entering t (suc day.tally) member d limit volume in
+        enters =
+            λ new k.
+            let e : Order = order_of t (suc day.tally) new in
             kept_entered day h day.stage (suc day.tally) (omega arith) (omega (arith, k.given)) e (omega arith) (is_open day.stage) day.table (fewer_same day.table)
             (omega (arith, h.fewer));
-        altered =
-            λ member n price volume o k.
-            let at : Held n day.table o = looked_up n day.table s o k.found in
-            alter_kept price volume o (is_held day.table s o.direction at.rank o at.there) k.given;
-        withdrawn = λ member n o _. kept_as_many day.stage (removed o.number day.table) (removed_fewer o.number day.table);
-        advanced = λ _. cond_both (strikes day.stage) _ _ (λ (m : Made). Kept m.day) (λ _. strike_kept t) (λ _. kept_as_many _ day.table (fewer_same day.table));
+        alters =
+            λ a o k.
+            let at : Held a.number day.table o = looked_up a.number day.table s o k.found in
+            alter_kept a o (is_held day.table s o.direction at.rank o at.there) k.given;
+        withdraws = λ w o _. kept_as_many day.stage (removed o.number day.table) (removed_fewer o.number day.table);
+        advances = λ _. cond_both (strikes day.stage) _ _ (λ (m : Made). Kept m.day) (λ _. strike_kept t) (λ _. kept_as_many _ day.table (fewer_same day.table));
       }) call
 
 -- the same of the day after, if v is the day before
 module _ (v : Day) (h : Kept v) (day : Day) (same : v ≡ day) where
-  pub kept_after : Sound v.table → (t : Terms) (call : Call) (room : ℕ) (after : Day) → after ≡ moved day (step t day call room) → Kept after
-  kept_after s t call room after e = subst Kept (sym e) (subst (λ d. Kept (moved d (step t d call room))) same (kept_step v h s t call room))
+  pub kept_after : Sound v.table → (t : Terms) (call : Call) (room : ℕ) (after : Day) → after ≡ day_after day (step t day call room) → Kept after
+  kept_after s t call room after e = subst Kept (sym e) (subst (λ d. Kept (day_after d (step t d call room))) same (kept_step v h s t call room))
 
-  pub kept_changed : (price volume : ℕ) (o : Order) → lookup o.number day.table.book ≡ Some o → day.tally < 1000000 → (after : Day) → after ≡ (alter day price volume o).day → Kept after
-  kept_changed price volume o found given after e = subst Kept (sym e) (alter_kept day (subst Kept same h) price volume o (ap is_some found) given)
+  pub kept_changed : (a : Alteration) (o : Order) → lookup o.number day.table.book ≡ Some o → day.tally < 1000000 → (after : Day) → after ≡ (alter day a o).day → Kept after
+  kept_changed a o found given after e = subst Kept (sym e) (alter_kept day (subst Kept same h) a o (ap is_some found) given)

@@ -6,23 +6,25 @@ use Rattle.rules.specs.declared.refusal.Refusal.{Refusal}
 use Rattle.rules.specs.declared.terms.Terms.{Terms}
 use Rattle.tables.specs.Meaning.{Capacity}
 use Rattle.book.specs.declared.answer.Answer.{Answer}
+use Rattle.book.specs.declared.answer.Told.{Told}
 use Rattle.book.specs.declared.call.Call.{Call}
 use Rattle.book.specs.declared.slip.Slip.{Slip}
-use Rattle.book.specs.Day.{Day, step}
+use Rattle.book.specs.Day.{Day}
+use Rattle.book.specs.Calls.{step}
 use Rattle.book.specs.Journal.{Line, books, LawfulJournal, journal}
 use Rattle.book.specs.Law.{Try, Came, Shown}
 use Rattle.book.specs.Leads.{Leads, GoesOn}
-use Rattle.book.specs.Marks.{Session, begun}
-use Rattle.book.specs.Model.{model, moved, came, day_after}
+use Rattle.book.specs.Marks.{Session, new_session}
+use Rattle.book.specs.Model.{model, day_after, what_came, day_after_tries}
 use Rattle.book.proofs.Leading.{leads_agrees}
 use Rattle.market.specs.declared.journal.Entry.{Entry}
-use Rattle.market.specs.Outcome.{told, written_into}
+use Rattle.market.specs.Outcome.{by_number, written_into}
 use Rattle.market.specs.Works.{Seen, opened, counted, verdict, Worked, works, came_to}
-use Rattle.market.specs.Journaled.{verdict_of, line_in, run_through, Follows, Asked, Told, tries, lines, Journaled}
+use Rattle.market.specs.Journaled.{verdict_of, line_in, run_through, Follows, Asked, Tells, tries, lines, Journaled}
 use Rattle.market.proofs.Working.{lawfully, wrote}
 
 -- what was copied is what the answer counts
-pub verdict_same : (r : Result Answer Refusal) (run : List Slip) → verdict (told r) run ≡ verdict_of r (take (counted (told r)) run)
+pub verdict_same : (r : Result (Answer Told) Refusal) (run : List Slip) → verdict (by_number r) run ≡ verdict_of r (take (counted (by_number r)) run)
 verdict_same (Ok a) run = refl
 verdict_same (Err e) run = refl
 
@@ -33,14 +35,14 @@ asked_of x = x.asked
 
 module _ (t : Terms) (cap : Capacity) where
   by_rules : (past : List Line) (s : Session) → Leads t cap past s →
-      (past ≡ journal model t cap (map asked_of past)) × (s.day ≡ day_after step t cap (map asked_of past))
+      (past ≡ journal model t cap (map asked_of past)) × (s.day ≡ day_after_tries step t cap (map asked_of past))
   by_rules [] s e = (refl, ap (λ (z : Session). z.day) e)
   by_rules (x ∷ past) after h =
       let back = by_rules past h.0 h.1 in
-      let comes : Day → Came = λ d. came d (step t d x.asked.call x.asked.room) in
-      let x_came : x.came ≡ comes (day_after step t cap (map asked_of past)) = sym h.2 ∙ ap comes back.1 in (
+      let comes : Day → Came = λ d. what_came d (step t d x.asked.call x.asked.room) in
+      let x_came : x.came ≡ comes (day_after_tries step t cap (map asked_of past)) = sym h.2 ∙ ap comes back.1 in (
         λ i. record { asked = x.asked; came = x_came i } ∷ back.0 i,
-        sym (ap (λ (z : Session). z.day) h.3) ∙ ap (λ d. moved d (step t d x.asked.call x.asked.room)) back.1,
+        sym (ap (λ (z : Session). z.day) h.3) ∙ ap (λ d. day_after d (step t d x.asked.call x.asked.room)) back.1,
       )
 
 -- As far as the calls went --------------------------------------------------------------------------------------------------
@@ -50,7 +52,7 @@ pub record Gone (t : Terms) (cap : Capacity) (calls : List Call) (room : ℕ) (e
   asked : Asked calls room es
   past : List Line
   tried : map asked_of past ≡ tries calls room
-  told : Told past es
+  told : Tells past es
   lawful : LawfulJournal t past
   shown : Shown (books t past) s.session.day.table.book
   leads : Leads t cap past s.session
@@ -61,7 +63,7 @@ shown_after t cap past s h = (leads_agrees t cap past s h).inv.shown
 
 pub begins : (t : Terms) (cap : Capacity) (room : ℕ) (s : Seen) → s ≡ opened t cap → Gone t cap [] room [] s
 begins t cap room s e =
-    let leads : s.session ≡ begun cap = ap (λ (x : Seen). x.session) e in
+    let leads : s.session ≡ new_session cap = ap (λ (x : Seen). x.session) e in
     record {
       asked = refl;
       past = [];
@@ -119,7 +121,7 @@ all_gone t cap calls room es s h =
     let same : h.past ≡ lines t cap calls room = (by_rules t cap h.past s.session h.leads).0 ∙ ap (journal model t cap) h.tried in
     record {
       asked = h.asked;
-      told = subst (λ p. Told p es) same h.told;
+      told = subst (λ p. Tells p es) same h.told;
       lawful = subst (LawfulJournal t) same h.lawful;
       shown = subst (λ p. Shown (books t p) s.session.day.table.book) same h.shown;
       leads = subst (λ p. Leads t cap p s.session) same h.leads;
@@ -128,8 +130,8 @@ all_gone t cap calls room es s h =
 
 -- One call ------------------------------------------------------------------------------------------------------------------
 
-module _ (s s' : Seen) (c : Call) (run run' : List Slip) (r : Result Answer Refusal) (is : came_to (told r) s' run' ≡ works s c run)
-    (e : Entry) (answer_is : e.answer ≡ r) (slips_is : e.slips.items ≡ take (counted (told r)) run') where
+module _ (s s' : Seen) (c : Call) (run run' : List Slip) (r : Result (Answer Told) Refusal) (is : came_to (by_number r) s' run' ≡ works s c run)
+    (e : Entry) (answer_is : e.answer ≡ r) (slips_is : e.slips.items ≡ take (counted (by_number r)) run') where
   -- a call that was worked, and copied with its slips
   pub follows : e.call ≡ c → e.room ≡ length run → Follows s c (length run) e s'
   follows call_is room_is =
@@ -148,11 +150,11 @@ module _ (s s' : Seen) (c : Call) (run run' : List Slip) (r : Result Answer Refu
                 book = s'.session.day.table.book;
               };
             })
-            (lawfully s c run (came_to (told r) s' run') is cap);
+            (lawfully s c run (came_to (by_number r) s' run') is cap);
       }
 
   pub run_is : run' ≡ written_into run e.slips.items
-  run_is = wrote s c run (came_to (told r) s' run') is ∙ ap (written_into run) (sym slips_is)
+  run_is = wrote s c run (came_to (by_number r) s' run') is ∙ ap (written_into run) (sym slips_is)
 
 -- The run -------------------------------------------------------------------------------------------------------------------
 

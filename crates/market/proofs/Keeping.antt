@@ -10,7 +10,7 @@ use Rattle.tables.specs.Listing.{numbered, times, with_volume, without}
 use Rattle.tables.specs.Meaning.{Contents, listed, book_of, held, takes}
 use Rattle.tables.proofs.Keeps.{free, held_none}
 use Rattle.tables.proofs.Numbers.{times-without}
-use Rattle.book.specs.Day.{Swept, sweep, Paired, pair, match_at, less, limits}
+use Rattle.book.specs.Calls.{Sweep, sweep, Pairing, pair, match_at, with_first_less, limit_orders}
 use Rattle.market.specs.Fills.{with_listed}
 
 pub record Part (xs ys : List Order) : Type 0 where
@@ -36,7 +36,7 @@ part_volume v o os = record { shorter = omega arith; numbers = λ m. omega arith
 pub sweep_part : (d : Direction) (n p : ℕ) (os : List Order) (v : ℕ) → Part (sweep d n p os v).rest os
 sweep_part d n p [] v = part_same []
 sweep_part d n p (o ∷ os) v =
-    let Q : Swept → Type 0 = λ s. Part s.rest (o ∷ os) in
+    let Q : Sweep → Type 0 = λ s. Part s.rest (o ∷ os) in
     cond_both (v == 0 || not (willing (opposite d) o.price p)) _ _ Q
     (λ _. part_same (o ∷ os))
     (λ _.
@@ -44,14 +44,14 @@ sweep_part d n p (o ∷ os) v =
     (λ _. part_more o _ os (sweep_part d n p os (v - o.volume)))
     (λ _. part_volume (o.volume - v) o os))
 
-less_part : (v : ℕ) (o : Order) (os : List Order) → Part (less v o os) (o ∷ os)
+less_part : (v : ℕ) (o : Order) (os : List Order) → Part (with_first_less v o os) (o ∷ os)
 less_part v o os =
     cond_both (leb o.volume v) os (with_volume (o.volume - v) o ∷ os) (λ xs. Part xs (o ∷ os))
     (λ _. part_more o os os (part_same os))
     (λ _. part_volume (o.volume - v) o os)
 
 -- both sides of a pairing
-abbrev Parts : List Order → List Order → Paired → Type 0
+abbrev Parts : List Order → List Order → Pairing → Type 0
 Parts bs ss w = Part w.buys bs × Part w.sells ss
 
 pair_part : (p n : ℕ) (bs ss : List Order) → Parts bs ss (pair p n bs ss)
@@ -62,19 +62,19 @@ pair_part p (suc n) (b ∷ bs) (s ∷ ss) =
     let v = min b.volume s.volume in
     cond_both (willing Buy b.price p && willing Sell s.price p) _ _ (Parts (b ∷ bs) (s ∷ ss))
     (λ _.
-    let ih = pair_part p n (less v b bs) (less v s ss) in
-    (part_trans _ (less v b bs) (b ∷ bs) ih.0 (less_part v b bs), part_trans _ (less v s ss) (s ∷ ss) ih.1 (less_part v s ss)))
+    let ih = pair_part p n (with_first_less v b bs) (with_first_less v s ss) in
+    (part_trans _ (with_first_less v b bs) (b ∷ bs) ih.0 (less_part v b bs), part_trans _ (with_first_less v s ss) (s ∷ ss) ih.1 (less_part v s ss)))
     (λ _. (part_same (b ∷ bs), part_same (s ∷ ss)))
 
 pub match_part : (price : Option ℕ) (bs ss : List Order) → Parts bs ss (match_at price bs ss)
 match_part None bs ss = (part_same bs, part_same ss)
 match_part (Some p) bs ss = pair_part p (length bs + length ss) bs ss
 
-pub limits_part : (xs : List Order) → Part (limits xs) xs
+pub limits_part : (xs : List Order) → Part (limit_orders xs) xs
 limits_part [] = part_same []
 limits_part (x ∷ xs) =
     let ih = limits_part xs in
-    cond_both x.market (limits xs) (x ∷ limits xs) (λ ys. Part ys (x ∷ xs)) (λ _. part_more x (limits xs) xs ih) (λ _. part_cons x (limits xs) xs ih)
+    cond_both x.market (limit_orders xs) (x ∷ limit_orders xs) (λ ys. Part ys (x ∷ xs)) (λ _. part_more x (limit_orders xs) xs ih) (λ _. part_cons x (limit_orders xs) xs ih)
 
 pub without_part : (n : ℕ) (xs : List Order) → Part (without n xs) xs
 without_part n xs =

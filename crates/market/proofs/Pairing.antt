@@ -11,8 +11,8 @@ use Rattle.book.specs.declared.slip.Slip.TheVariants.{Trade, Lapse}
 use Rattle.std.proofs.lemmas.List.{length-take-le}
 use Rattle.market.specs.Outcome.{written_into}
 use Rattle.market.proofs.Writing.{written_so_far}
-use Rattle.book.specs.Day.{Paired, match_at, pair, paired as slipped, turnover}
-use Rattle.book.specs.Rows.{orders_of}
+use Rattle.book.specs.Calls.{Pairing, match_at, pair, trade_then as slipped, turnover}
+use Rattle.book.specs.Rows.{order_count}
 use Rattle.market.specs.Fills.{took, took_on}
 use Rattle.market.proofs.Taking.{first_list, listed_side}
 use Rattle.market.proofs.Sweeping.{took_most}
@@ -21,10 +21,10 @@ abbrev pub Both : ℕ → Order → Order → Bool
 Both p b s = willing Buy b.price p && willing Sell s.price p
 
 -- the same with slips before
-abbrev pub after : List Slip → Paired → Paired
+abbrev pub after : List Slip → Pairing → Pairing
 after ss w = record { slips = ss ++ w.slips; buys = w.buys; sells = w.sells }
 
-pub after_more : (ss : List Slip) (s : Slip) (w : Paired) → after (ss ++ (s ∷ [])) w ≡ after ss (slipped s w)
+pub after_more : (ss : List Slip) (s : Slip) (w : Pairing) → after (ss ++ (s ∷ [])) w ≡ after ss (slipped s w)
 after_more ss s w = ap (λ xs. record { slips = xs; buys = w.buys; sells = w.sells }) (append_assoc ss (s ∷ []) w.slips)
 
 pub turnover_append : (xs ys : List Slip) → turnover (xs ++ ys) ≡ turnover xs + turnover ys
@@ -32,7 +32,7 @@ turnover_append [] ys = omega arith
 turnover_append (Trade b s p v ∷ xs) ys = omega (arith, turnover_append xs ys)
 turnover_append (Lapse n v ∷ xs) ys = turnover_append xs ys
 
-abbrev pub still : List Order → List Order → Paired
+abbrev pub still : List Order → List Order → Pairing
 still bs ss = record { slips = []; buys = bs; sells = ss }
 
 took_one : (m : ℕ) (o : Order) (os : List Order) → o.volume ≤ m → length (took m (o ∷ os)) ≡ length os
@@ -89,15 +89,15 @@ module _ (p : ℕ) where
     g : (os : List Order) × (c.book.sells ≡ s ∷ os)
     g = first_list c.book.sells s hs
 
-    pub pair_stop : Both p b s ≡ false → pair p (orders_of c) c.book.buys c.book.sells ≡ still c.book.buys c.book.sells
+    pub pair_stop : Both p b s ≡ false → pair p (order_count c) c.book.buys c.book.sells ≡ still c.book.buys c.book.sells
     pair_stop h =
-        (λ i. pair p (orders_of c) (f.1 i) (g.1 i)) ∙ stop (orders_of c) b s f.0 g.0 h ∙ (λ i. still (sym f.1 i) (sym g.1 i))
+        (λ i. pair p (order_count c) (f.1 i) (g.1 i)) ∙ stop (order_count c) b s f.0 g.0 h ∙ (λ i. still (sym f.1 i) (sym g.1 i))
 
     pub pair_turn : (m : ℕ) → Both p b s ≡ true → m ≡ min b.volume s.volume →
-        pair p (orders_of c) c.book.buys c.book.sells
+        pair p (order_count c) c.book.buys c.book.sells
         ≡ slipped (Trade b.number s.number p m) (pair p (length (took m c.book.buys) + length (took m c.book.sells)) (took m c.book.buys) (took m c.book.sells))
     pair_turn m h e =
-        let n = orders_of c in
+        let n = order_count c in
         let bs = took m c.book.buys in
         let ss = took m c.book.sells in
         let slip = Trade b.number s.number p m in
@@ -107,7 +107,7 @@ module _ (p : ℕ) where
         let less = enough n (length bs + length ss) bs ss (omega (arith, took_most m c.book.buys, took_most m c.book.sells)) (omega arith) in
         more ∙ one ∙ ap (slipped slip) less
 
-    pub took_fewer : (m : ℕ) → m ≡ min b.volume s.volume → length (took m c.book.buys) + length (took m c.book.sells) < orders_of c
+    pub took_fewer : (m : ℕ) → m ≡ min b.volume s.volume → length (took m c.book.buys) + length (took m c.book.sells) < order_count c
     took_fewer m e =
         omega (arith, took_pair m b s f.0 g.0 e, ap (λ z. length (took m z)) f.1, ap (λ z. length (took m z)) g.1, ap length f.1, ap length g.1)
 
@@ -132,7 +132,7 @@ module _ (c : Contents) (sound : Sound c) (m : ℕ) (b s : Order) (hb : slice_ge
     pub both_taken : (last : Contents) → last ≡ took_on s.direction m after → last ≡ took_on Sell m (took_on Buy m c)
     both_taken last k = k ∙ ap (λ d. took_on d m after) sell_side ∙ ap (took_on Sell m) bought
 
-pub record Ended (all : Paired) (old t : Contents) (run0 now' : List Slip) (v k : ℕ) : Type 0 where
+pub record Ended (all : Pairing) (old t : Contents) (run0 now' : List Slip) (v k : ℕ) : Type 0 where
   pub traded : v ≡ turnover all.slips
   pub written : k ≡ length all.slips
   pub table : t ≡ holding old (book_of all.buys all.sells)
@@ -141,11 +141,11 @@ pub record Ended (all : Paired) (old t : Contents) (run0 now' : List Slip) (v k 
 -- where the pairing ends, what is written is the slips of the whole, and what stands is what it leaves
 module _ (p : ℕ) (old t : Contents) (run0 run : List Slip) (traded k : ℕ) (v : traded ≡ turnover (take k run)) (cap : t.capacity ≡ old.capacity) (rest : drop k run ≡ drop k run0) (fits : k ≤ length run)
     (e : match_at (Some p) old.book.buys old.book.sells ≡ after (take k run) (still t.book.buys t.book.sells)) where
-  abbrev all : Paired
+  abbrev all : Pairing
   all = match_at (Some p) old.book.buys old.book.sells
 
   slips : take k run ≡ all.slips
-  slips = sym (ap (λ (w : Paired). w.slips) e ∙ append-nil (take k run))
+  slips = sym (ap (λ (w : Pairing). w.slips) e ∙ append-nil (take k run))
 
   pub ended : Ended all old t run0 run traded k
   ended =

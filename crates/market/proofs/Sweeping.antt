@@ -9,7 +9,7 @@ use Rattle.rules.specs.declared.order.Order.{Order}
 use Rattle.tables.specs.Listing.{with_volume}
 use Rattle.tables.specs.Meaning.{Contents, listed}
 use Rattle.book.specs.declared.slip.Slip.{Slip}
-use Rattle.book.specs.Day.{Swept, sweep, swept as slipped, trade}
+use Rattle.book.specs.Calls.{Sweep, sweep, slip_then as slipped, trade}
 use Rattle.market.specs.Fills.{took, with_listed}
 use Rattle.market.proofs.Taking.{first_list}
 
@@ -26,14 +26,14 @@ on_twice Buy xs ys c = refl
 on_twice Sell xs ys c = refl
 
 -- the same with slips before
-abbrev pub after : List Slip → Swept → Swept
+abbrev pub after : List Slip → Sweep → Sweep
 after ss w = record { slips = ss ++ w.slips; rest = w.rest; left = w.left }
 
-pub after_more : (ss : List Slip) (s : Slip) (w : Swept) → after (ss ++ (s ∷ [])) w ≡ after ss (slipped s w)
+pub after_more : (ss : List Slip) (s : Slip) (w : Sweep) → after (ss ++ (s ∷ [])) w ≡ after ss (slipped s w)
 after_more ss s w = ap (λ xs. record { slips = xs; rest = w.rest; left = w.left }) (append_assoc ss (s ∷ []) w.slips)
 
 -- nothing more happens
-abbrev pub still : List Order → ℕ → Swept
+abbrev pub still : List Order → ℕ → Sweep
 still xs v = record { slips = []; rest = xs; left = v }
 
 -- the order n of side d and price p

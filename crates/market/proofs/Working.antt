@@ -6,25 +6,28 @@ use Rattle.std.proofs.lemmas.List.{length-append, length-drop}
 use Rattle.rules.specs.declared.reference.DayRecord.{DayRecord}
 use Rattle.rules.specs.declared.terms.Terms.{Terms}
 use Rattle.book.specs.declared.answer.Answer.{Answer}
+use Rattle.book.specs.declared.answer.Told.{Told}
 use Rattle.book.specs.declared.call.Call.{Call}
 use Rattle.book.specs.declared.slip.Slip.{Slip}
-use Rattle.book.specs.Day.{Day, Outcome, refused_by, done, step}
+use Rattle.book.specs.declared.stage.Stage.{Stage}
+use Rattle.book.specs.Day.{Day}
+use Rattle.book.specs.Calls.{Outcome, refused_by, done, step}
 use Rattle.book.specs.Law.{accepted}
 use Rattle.book.specs.Leads.{GoesOn, outcome}
-use Rattle.book.specs.Marks.{worked, marks_after}
-use Rattle.book.specs.Model.{moved, result}
+use Rattle.book.specs.Marks.{session_after}
+use Rattle.book.specs.Model.{day_after, result}
 use Rattle.book.specs.Room.{FitsRun}
 use Rattle.book.proofs.Leading.{going_on}
 use Rattle.book.proofs.Rooms.{room_stands}
 use Rattle.market.specs.Outcome.{written_into, answered, run_after}
-use Rattle.market.specs.Works.{Seen, trial, Worked, came_to, worked_by, works, counted, verdict, line_of, Lawfully}
+use Rattle.market.specs.Works.{Seen, followed, trial, Worked, came_to, worked_by, works, counted, verdict, line_of, Lawfully}
 
-abbrev is_ok : Result Answer ℕ → Bool
+abbrev is_ok : Result (Answer Told) ℕ → Bool
 is_ok (Ok a) = true
 is_ok (Err n) = false
 
 -- the slips that an answer counts are those that were written
-taken : (run : List Slip) (a : Answer) (slips : List Slip) → a.slips ≡ length slips → take a.slips (written_into run slips) ≡ slips
+taken : (run : List Slip) (a : Answer Told) (slips : List Slip) → a.slips ≡ length slips → take a.slips (written_into run slips) ≡ slips
 taken run a slips e = ap (λ n. take n (written_into run slips)) e ∙ take-append_seam slips (drop (length slips) run)
 
 room_for : (run slips : List Slip) (n : ℕ) → n ≡ length slips → length slips ≤ length run → n ≤ length (written_into run slips)
@@ -63,7 +66,7 @@ module _ (s : Seen) (call : Call) (run : List Slip) where
     pub lawfully : Lawfully s call (length run) w
     lawfully cap =
         subst (λ (x : Worked). GoesOn s.terms cap s.session (line_of call (length run) x) x.after.session) (sym e)
-        (subst (λ v. GoesOn s.terms cap s.session (record { asked = trial call run; came = record { result = v; book = (moved s.session.day came).table.book } }) (worked s.terms call s.session came)) (sym (verdict_is run came fit))
+        (subst (λ v. GoesOn s.terms cap s.session (record { asked = trial call run; came = record { result = v; book = (day_after s.session.day came).table.book } }) (session_after s.terms call s.session came)) (sym (verdict_is run came fit))
         (going_on s.terms cap s.session (trial call run)))
 
 -- Of what a call makes of a session ------------------------------------------------------------------------------------------
@@ -78,16 +81,17 @@ module _ (t : Terms) (day : Day) (m : DayRecord) (call : Call) (run : List Slip)
   abbrev before : Seen
   before = session_of t day m
 
-  module _ (day' : Day) (run' : List Slip) (ed : day' ≡ moved day out) (er : run' ≡ run_after run out) where
+  -- z is the session before the call
+  module _ (z : Seen) (same : before ≡ z) (day' : Day) (run' : List Slip) (ed : day' ≡ day_after day out) (er : run' ≡ run_after run out) where
     -- a refusal leaves the session as it was
-    pub refused_is : (n : ℕ) → Err n ≡ answered out → came_to (Err n) (session_of t day' m) run' ≡ works before call run
-    refused_is n ea = go out ea ed er
+    pub refused_is : (n : ℕ) → Err n ≡ answered out → came_to (Err n) (session_of t day' m) run' ≡ works z call run
+    refused_is n ea = go out ea ed er ∙ ap (λ s. works s call run) same
       where
-        go : (o : Outcome) → Err n ≡ answered o → day' ≡ moved day o → run' ≡ run_after run o → came_to (Err n) (session_of t day' m) run' ≡ worked_by before call run o
+        go : (o : Outcome) → Err n ≡ answered o → day' ≡ day_after day o → run' ≡ run_after run o → came_to (Err n) (session_of t day' m) run' ≡ worked_by before call run o
         go (refused_by k) ea ed er = λ i. came_to (ea i) (session_of t (ed i) m) (er i)
         go (done d b slips) ea ed er = absurd (both_ways true (sym (ap is_ok ea)) refl)
 
-    module _ (a : Answer) (ea : Ok a ≡ answered out) where
+    module _ (a : Answer Told) (ea : Ok a ≡ answered out) where
       pub done_fits : a.slips ≤ length run'
       done_fits = go out ea er (room_stands t day call (length run))
         where
@@ -96,12 +100,17 @@ module _ (t : Terms) (day : Day) (m : DayRecord) (call : Call) (run : List Slip)
           go (done d b slips) ea er f =
               subst (λ z. a.slips ≤ length z) (sym er) (room_for run slips a.slips (ap counted ea ∙ f.0) f.1)
 
-      pub done_is : (m' : DayRecord) → m' ≡ marks_after t day.stage call m (take a.slips run') day'.table.book → came_to (Ok a) (session_of t day' m') run' ≡ works before call run
-      done_is m' em = ap (λ k. came_to (Ok a) (session_of t day' k) run') em ∙ go out ea ed er (room_stands t day call (length run))
+      pub done_is :
+          (stage : Stage) → stage ≡ day.stage → (v : Seen) → v ≡ followed (session_of t day' m) stage call (take a.slips run') →
+          came_to (Ok a) v run' ≡ works z call run
+      done_is stage es v ev =
+          ap (λ x. came_to (Ok a) x run') (ev ∙ ap (λ s. followed (session_of t day' m) s call (take a.slips run')) es)
+          ∙ go out ea ed er (room_stands t day call (length run))
+          ∙ ap (λ s. works s call run) same
         where
-          go : (o : Outcome) → Ok a ≡ answered o → day' ≡ moved day o → run' ≡ run_after run o → FitsRun (length run) o →
-              came_to (Ok a) (session_of t day' (marks_after t day.stage call m (take a.slips run') day'.table.book)) run' ≡ worked_by before call run o
+          go : (o : Outcome) → Ok a ≡ answered o → day' ≡ day_after day o → run' ≡ run_after run o → FitsRun (length run) o →
+              came_to (Ok a) (followed (session_of t day' m) day.stage call (take a.slips run')) run' ≡ worked_by before call run o
           go (refused_by k) ea ed er f = absurd (both_ways true (ap is_ok ea) refl)
           go (done d b slips) ea ed er f =
-              (λ i. came_to (ea i) (session_of t (ed i) (marks_after t day.stage call m (take (counted (ea i)) (er i)) (ed i).table.book)) (er i))
-              ∙ ap (λ ss. came_to (Ok b) (session_of t d (marks_after t day.stage call m ss d.table.book)) (written_into run slips)) (taken run b slips f.0)
+              (λ i. came_to (ea i) (followed (session_of t (ed i) m) day.stage call (take (counted (ea i)) (er i))) (er i))
+              ∙ ap (λ ss. came_to (Ok b) (followed (session_of t d m) day.stage call ss) (written_into run slips)) (taken run b slips f.0)

@@ -3,13 +3,13 @@ use Rattle.std.specs.Prelude.{ℕ, List, [], ◌∷◌, length}
 use Rattle.rules.specs.declared.order.Direction.{Direction}
 use Rattle.rules.specs.declared.order.Order.{Order}
 use Rattle.tables.specs.Meaning.{Contents, listed, holding, with_side}
-use Rattle.book.specs.Day.{Arrived, less}
+use Rattle.book.specs.Calls.{Execution, with_first_less}
 use Rattle.market.specs.declared.entries.Fill.{Fill}
 
 -- the orders after the first has traded v
 abbrev pub took : ℕ → List Order → List Order
 took v [] = []
-took v (o ∷ os) = less v o os
+took v (o ∷ os) = with_first_less v o os
 
 -- the contents with another list for one side
 abbrev pub with_listed : Direction → List Order → Contents → Contents
@@ -19,5 +19,5 @@ abbrev pub took_on : Direction → ℕ → Contents → Contents
 took_on d v c = with_listed d (took v (listed d c)) c
 
 -- the volumes of an order that entered, and the count of its slips
-abbrev pub fill_of : Arrived → Fill
+abbrev pub fill_of : Execution → Fill
 fill_of a = record { traded = a.traded; held = a.held; written = length a.slips }

@@ -5,6 +5,7 @@ use Rattle.rules.specs.declared.refusal.Refusal.{Refusal}
 use Rattle.rules.specs.declared.terms.Terms.{Terms}
 use Rattle.tables.specs.Meaning.{Capacity}
 use Rattle.book.specs.declared.answer.Answer.{Answer}
+use Rattle.book.specs.declared.answer.Told.{Told}
 use Rattle.book.specs.declared.call.Call.{Call}
 use Rattle.book.specs.declared.slip.Slip.{Slip}
 use Rattle.rules.specs.Book.{Book}
@@ -17,7 +18,7 @@ use Rattle.market.specs.Outcome.{written_into}
 use Rattle.market.specs.Works.{Seen}
 
 -- what came of an entry's try
-abbrev pub verdict_of : Result Answer Refusal → List Slip → Verdict
+abbrev pub verdict_of : Result (Answer Told) Refusal → List Slip → Verdict
 verdict_of (Err r) slips = refused (number r)
 verdict_of (Ok a) slips = accepted a slips
 
@@ -45,9 +46,9 @@ Asked (c ∷ cs) room [] = ⊥
 Asked (c ∷ cs) room (e ∷ es) = (e.call ≡ c) × (e.room ≡ room) × Asked cs room es
 
 -- the entries, the first first, say what the lines say, the last first: of each its call, room, answer and slips
-abbrev pub Told : List Line → List Entry → Type 0
-Told [] es = es ≡ []
-Told (x ∷ past) es = (before : List Entry) × (e : Entry) × (es ≡ before ++ (e ∷ [])) × (line_in e x.came.book ≡ x) × Told past before
+abbrev pub Tells : List Line → List Entry → Type 0
+Tells [] es = es ≡ []
+Tells (x ∷ past) es = (before : List Entry) × (e : Entry) × (es ≡ before ++ (e ∷ [])) × (line_in e x.came.book ≡ x) × Tells past before
 
 -- the tries of calls over a run of so many places, the last first
 abbrev pub tries : List Call → ℕ → List Try
@@ -62,7 +63,7 @@ lines t cap calls room = journal model t cap (tries calls room)
 -- ledger's live orders; and the journal leads to the session
 pub record Journaled (t : Terms) (cap : Capacity) (calls : List Call) (room : ℕ) (es : List Entry) (s : Seen) : Type 0 where
   pub asked : Asked calls room es
-  pub told : Told (lines t cap calls room) es
+  pub told : Tells (lines t cap calls room) es
   pub lawful : LawfulJournal t (lines t cap calls room)
   pub shown : Shown (books t (lines t cap calls room)) s.session.day.table.book
   pub leads : Leads t cap (lines t cap calls room) s.session

@@ -3,24 +3,30 @@ use Rattle.std.specs.Prelude.{ℕ, List, ◌++◌, drop, length, Ok, Err, Result
 use Rattle.rules.specs.Refusal.{number}
 use Rattle.rules.specs.declared.refusal.Refusal.{Refusal}
 use Rattle.book.specs.declared.answer.Answer.{Answer}
+use Rattle.book.specs.declared.answer.Told.{Told}
 use Rattle.book.specs.declared.call.Call.{Call}
 use Rattle.book.specs.declared.call.Call.TheVariants.{Advance}
 use Rattle.book.specs.declared.slip.Slip.{Slip}
 use Rattle.book.specs.declared.stage.Stage.{Stage}
-use Rattle.book.specs.Day.{Outcome, refused_by, done}
-use Rattle.book.specs.Rules.{next}
+use Rattle.book.specs.Calls.{Outcome, refused_by, done}
+use Rattle.book.specs.Stages.{next}
 
--- a result as a caller is told it: a refusal by its number
-abbrev pub told : {X : Type 0} → Result X Refusal → Result X ℕ
-told (Ok x) = Ok x
-told (Err e) = Err (number e)
+-- a result with the refusal by its number
+abbrev pub by_number : {X : Type 0} → Result X Refusal → Result X ℕ
+by_number (Ok x) = Ok x
+by_number (Err e) = Err (number e)
+
+-- the answer to a call of one kind, as what any call is answered
+abbrev pub told_as : {X : Type 0} → (X → Told) → Result (Answer X) Refusal → Result (Answer Told) ℕ
+told_as kind (Ok a) = Ok (record { told = kind a.told; slips = a.slips })
+told_as kind (Err e) = Err (number e)
 
 -- the slips from the first place on, and the places behind them as they were
 abbrev pub written_into : List Slip → List Slip → List Slip
 written_into run slips = slips ++ drop (length slips) run
 
 -- the answer or the refusal's number
-abbrev pub answered : Outcome → Result Answer ℕ
+abbrev pub answered : Outcome → Result (Answer Told) ℕ
 answered (refused_by n) = Err n
 answered (done day a slips) = Ok a
 

@@ -3,14 +3,16 @@ use Rattle.std.specs.Prelude.{◌≡◌, ℕ, List, take, length, Ok, Err, Resul
 use Rattle.rules.specs.declared.terms.Terms.{Terms}
 use Rattle.tables.specs.Meaning.{Capacity}
 use Rattle.book.specs.declared.answer.Answer.{Answer}
+use Rattle.book.specs.declared.answer.Told.{Told}
 use Rattle.book.specs.declared.call.Call.{Call}
 use Rattle.book.specs.declared.slip.Slip.{Slip}
-use Rattle.book.specs.Day.{Outcome}
+use Rattle.book.specs.declared.stage.Stage.{Stage}
+use Rattle.book.specs.Calls.{Outcome}
 use Rattle.book.specs.Journal.{Line}
 use Rattle.book.specs.Law.{Try, Verdict, refused, accepted}
 use Rattle.book.specs.Ending.{reference_by}
 use Rattle.book.specs.Leads.{outcome, Leads, GoesOn}
-use Rattle.book.specs.Marks.{Session, begun, worked}
+use Rattle.book.specs.Marks.{Session, marks_after, new_session, session_after}
 use Rattle.market.specs.Outcome.{answered, run_after}
 
 -- what a session means: its terms, and its day with what the next reference price needs
@@ -20,23 +22,29 @@ pub record Seen : Type 0 where
 
 -- a session that begins
 abbrev pub opened : Terms → Capacity → Seen
-opened t cap = record { terms = t; session = begun cap }
+opened t cap = record { terms = t; session = new_session cap }
+
+-- after an accepted call that was made in this stage and wrote these slips, the next reference price needs this
+abbrev pub followed : Seen → Stage → Call → List Slip → Seen
+followed s stage call slips =
+    let x : Session = s.session in
+    record s { session = record x { marks = marks_after s.terms stage call x.marks slips x.day.table.book } }
 
 abbrev pub trial : Call → List Slip → Try
 trial call run = record { call = call; room = length run }
 
 -- the answer or the refusal's number, the session and the run after a call
 pub record Worked : Type 0 where
-  pub answer : Result Answer ℕ
+  pub answer : Result (Answer Told) ℕ
   pub after : Seen
   pub run : List Slip
 
-abbrev pub came_to : Result Answer ℕ → Seen → List Slip → Worked
+abbrev pub came_to : Result (Answer Told) ℕ → Seen → List Slip → Worked
 came_to answer s run = record { answer = answer; after = s; run = run }
 
 abbrev pub worked_by : Seen → Call → List Slip → Outcome → Worked
 worked_by s call run out =
-    came_to (answered out) (record { terms = s.terms; session = worked s.terms call s.session out }) (run_after run out)
+    came_to (answered out) (record { terms = s.terms; session = session_after s.terms call s.session out }) (run_after run out)
 
 -- by the rules of the book
 abbrev pub works : Seen → Call → List Slip → Worked
@@ -45,12 +53,12 @@ works s call run = worked_by s call run (outcome s.terms s.session.day (trial ca
 -- what really came of a call ----------------------------------------------------------------------------------------
 
 -- how many slips what a call answers counts; a refusal counts none
-abbrev pub counted : Result Answer ℕ → ℕ
+abbrev pub counted : Result (Answer Told) ℕ → ℕ
 counted (Err n) = 0
 counted (Ok a) = a.slips
 
 -- an answer comes with the slips that it counts, from the run's first place on
-abbrev pub verdict : Result Answer ℕ → List Slip → Verdict
+abbrev pub verdict : Result (Answer Told) ℕ → List Slip → Verdict
 verdict (Err n) run = refused n
 verdict (Ok a) run = accepted a (take a.slips run)
 

@@ -1,13 +1,13 @@
 // Advancing to the next stage.
 ghost use Rattle.std.specs.Prelude.{◌≡◌, length};
 ghost use Rattle.book.specs.declared.call.Call.TheVariants.{Advance};
-ghost use Rattle.book.specs.Day.{step};
-ghost use Rattle.book.specs.Model.{moved};
-ghost use Rattle.market.specs.Outcome.{told, answered, run_after};
+ghost use Rattle.book.specs.Calls.{step};
+ghost use Rattle.book.specs.Model.{day_after};
+ghost use Rattle.market.specs.Outcome.{told_as, answered, run_after};
 
 use crate::day::{Day, follow};
 use crate::strikes::{Struck, strike};
-use book::answer::{Answer, Told};
+use book::answer::{Advanced, Answer, Told};
 use book::call::Call;
 use book::slip::Slip;
 use rules::refusal::Refusal;
@@ -16,11 +16,11 @@ use tables::table::Table;
 
 impl<T: Table> Day<T> {
     // Moves to the next stage; leaving Pre-open or Pre-close strikes a fixing.
-    pub fn advance(&mut self, terms: &Terms, run: &mut [Slip]) -> Result<Answer, Refusal>
-        ensures answer { told result
+    pub fn advance(&mut self, terms: &Terms, run: &mut [Slip]) -> Result<Answer<Advanced>, Refusal>
+        ensures answer { told_as Told.Advanced result
             ≡ answered (step terms.now self.old Advance (length run.old)) }
         ensures day { self.new
-            ≡ moved self.old (step terms.now self.old Advance (length run.old)) }
+            ≡ day_after self.old (step terms.now self.old Advance (length run.old)) }
         ensures run { run.new
             ≡ run_after run.old (step terms.now self.old Advance (length run.old)) }
     {
@@ -35,7 +35,7 @@ impl<T: Table> Day<T> {
             }
         };
         follow(&mut self.stage, &Call::Advance);
-        let told = Told::Advanced {
+        let told = Advanced {
             stage: self.stage,
             price: struck.price,
             traded: struck.traded,

@@ -6,30 +6,22 @@ ghost use Rattle.rules.specs.declared.terms.Terms.{Terms};
 ghost use Rattle.tables.specs.Listing.{with_volume};
 ghost use Rattle.tables.specs.Meaning.{listed, lookup, added, removed};
 ghost use Rattle.book.specs.declared.call.Call.TheVariants.{Alter, Withdraw};
-ghost use Rattle.book.specs.Rows.{is_open};
+ghost use Rattle.book.specs.Stages.{is_open};
+ghost use Rattle.book.specs.Calls.{entry_of, entry_again, alter as altering, step};
+ghost use Rattle.book.specs.Model.{day_after};
 ghost use Rattle.book.specs.declared.slip.Slip.{Slip};
-ghost use Rattle.book.specs.Day.{entered, re_entered, alter as altering, step};
-ghost use Rattle.book.specs.Model.{moved};
 ghost use Rattle.market.specs.Fills.{fill_of};
-ghost use Rattle.market.specs.Outcome.{told, answered, run_after, written_into};
+ghost use Rattle.market.specs.Outcome.{told_as, answered, run_after, written_into};
 
 use crate::day::Day;
 use crate::entries::{Fill, let_in};
-use book::answer::{Answer, Told};
+use book::answer::{Altered, Answer, Told, Withdrawn};
+use book::call::{Alteration, Withdrawal};
 use book::slip::Slip;
 use rules::order::Order;
 use rules::refusal::Refusal;
 use rules::terms::Terms;
 use tables::table::Table;
-
-// What a caller wants of an order that is held.
-#[derive(Clone, Copy)]
-pub struct Wanted {
-    pub member: u32,
-    pub number: u32,
-    pub price: u32,
-    pub volume: u32,
-}
 
 // An order leaves its place and enters again; it trades first, if it is to.
 fn enter_again<T: Table>(table: &mut T, order: Order, trades: bool, run: &mut [Slip]) -> Fill
@@ -40,11 +32,11 @@ fn enter_again<T: Table>(table: &mut T, order: Order, trades: bool, run: &mut [S
         → length (listed (opposite order.direction) (T.Table.contents table.old))
         < length run.old }
     ensures fill { let out = removed order.number (T.Table.contents table.old) in
-        result ≡ fill_of (entered trades order out) }
+        result ≡ fill_of (entry_of trades order out) }
     ensures table { let out = removed order.number (T.Table.contents table.old) in
-        T.Table.contents table.new ≡ (entered trades order out).table }
+        T.Table.contents table.new ≡ (entry_of trades order out).table }
     ensures run { let out = removed order.number (T.Table.contents table.old) in
-        run.new ≡ written_into run.old (entered trades order out).slips }
+        run.new ≡ written_into run.old (entry_of trades order out).slips }
 {
     let Ok(()) = table.remove(order.number) else {
         unreachable!()
@@ -68,7 +60,7 @@ fn keep_place<T: Table>(table: &mut T, order: &Order, volume: u32)
 }
 
 // The order as it is to be, with the next arrival.
-fn renewed(tally: &mut u32, order: &Order, wanted: &Wanted) -> Order
+fn renewed(tally: &mut u32, order: &Order, wanted: &Alteration) -> Order
     requires { tally.old < 1000000 }
     ensures tally { tally.new ≡ tally.old + 1 }
     ensures order { result ≡ record order.now {
@@ -89,18 +81,15 @@ fn renewed(tally: &mut u32, order: &Order, wanted: &Wanted) -> Order
 impl<T: Table> Day<T> {
     // Another price or a greater volume takes a new arrival, and another price trades in Open; a
     // smaller volume keeps its place; with neither changed the order stays as it is.
-    fn change(&mut self, order: Order, wanted: Wanted, run: &mut [Slip]) -> Fill
+    fn change(&mut self, order: Order, wanted: Alteration, run: &mut [Slip]) -> Fill
         requires given { self.old.tally < 1000000 }
         requires some { 0 < wanted.volume }
         requires found { lookup order.number self.old.table.book ≡ Some order }
         requires long { is_open self.old.stage ≡ true
             → length (listed (opposite order.direction) self.old.table) < length run.old }
-        ensures day { self.new ≡ (altering self.old wanted.price wanted.volume order).day }
-        ensures fill { let day = self.old in
-            result
-            ≡ fill_of (re_entered day.stage day.tally day.table wanted.price wanted.volume order) }
-        ensures run { run.new
-            ≡ written_into run.old (altering self.old wanted.price wanted.volume order).slips }
+        ensures day { self.new ≡ (altering self.old wanted order).day }
+        ensures fill { result ≡ fill_of (entry_again self.old wanted order) }
+        ensures run { run.new ≡ written_into run.old (altering self.old wanted order).slips }
     {
         match (order, wanted) {
             (o, w) if w.price != o.price => {
@@ -125,19 +114,19 @@ impl<T: Table> Day<T> {
     pub fn alter(
         &mut self,
         terms: &Terms,
-        wanted: Wanted,
+        wanted: Alteration,
         run: &mut [Slip],
-    ) -> Result<Answer, Refusal>
-        ensures answer { let call = Alter wanted.member wanted.number wanted.price wanted.volume in
-            told result ≡ answered (step terms.now self.old call (length run.old)) }
-        ensures day { let call = Alter wanted.member wanted.number wanted.price wanted.volume in
-            self.new ≡ moved self.old (step terms.now self.old call (length run.old)) }
-        ensures run { let call = Alter wanted.member wanted.number wanted.price wanted.volume in
-            run.new ≡ run_after run.old (step terms.now self.old call (length run.old)) }
+    ) -> Result<Answer<Altered>, Refusal>
+        ensures answer { told_as Told.Altered result
+            ≡ answered (step terms.now self.old (Alter wanted) (length run.old)) }
+        ensures day { self.new
+            ≡ day_after self.old (step terms.now self.old (Alter wanted) (length run.old)) }
+        ensures run { run.new
+            ≡ run_after run.old (step terms.now self.old (Alter wanted) (length run.old)) }
     {
         let order = self.check_alter(terms, wanted, run.len())?;
         let fill = self.change(order, wanted, run);
-        let told = Told::Altered {
+        let told = Altered {
             traded: fill.traded,
             held: fill.held,
         };
@@ -148,19 +137,17 @@ impl<T: Table> Day<T> {
     }
 
     // Needs no terms, and writes no slip.
-    pub fn withdraw(&mut self, member: u32, number: u32) -> Result<Answer, Refusal>
+    pub fn withdraw(&mut self, named: Withdrawal) -> Result<Answer<Withdrawn>, Refusal>
         ensures answer { (terms : Terms) (room : ℕ) →
-            told result ≡ answered (step terms self.old (Withdraw member number) room) }
+            told_as Told.Withdrawn result ≡ answered (step terms self.old (Withdraw named) room) }
         ensures day { (terms : Terms) (room : ℕ) →
-            self.new ≡ moved self.old (step terms self.old (Withdraw member number) room) }
-        ensures run { (terms : Terms) (run : List Slip) →
-            run ≡ run_after run (step terms self.old (Withdraw member number) (length run)) }
+            self.new ≡ day_after self.old (step terms self.old (Withdraw named) room) }
     {
-        let order = self.check_withdraw(member, number)?;
-        let Ok(()) = self.table.remove(number) else {
+        let order = self.check_withdraw(named)?;
+        let Ok(()) = self.table.remove(named.number) else {
             unreachable!()
         };
-        let told = Told::Withdrawn {
+        let told = Withdrawn {
             volume: order.volume,
         };
         Ok(Answer { told, slips: 0 })

@@ -1,17 +1,10 @@
 // The day of a session, which means the rules' day.
-ghost use Rattle.std.specs.Prelude.{◌≡◌, length};
-ghost use Rattle.book.specs.Day.{step, new as new_day};
-ghost use Rattle.book.specs.Model.{moved};
-ghost use Rattle.market.specs.Outcome.{told, answered, run_after, stage_after};
+ghost use Rattle.std.specs.Prelude.{◌≡◌};
+ghost use Rattle.book.specs.Day.{new_day as new_day};
+ghost use Rattle.market.specs.Outcome.{stage_after};
 
-use crate::alters::Wanted;
-use crate::entries::NewOrder;
-use book::answer::Answer;
 use book::call::Call;
-use book::slip::Slip;
 use book::stage::Stage;
-use rules::refusal::Refusal;
-use rules::terms::Terms;
 use std::marker::Model;
 use tables::table::Table;
 
@@ -67,45 +60,5 @@ impl<T: Table> Day<T> {
         ensures { result ≡ self.now.stage }
     {
         self.stage
-    }
-
-    // Works any call.
-    pub fn work(&mut self, terms: &Terms, call: Call, run: &mut [Slip]) -> Result<Answer, Refusal>
-        ensures answer { told result ≡ answered (step terms.now self.old call (length run.old)) }
-        ensures day { self.new ≡ moved self.old (step terms.now self.old call (length run.old)) }
-        ensures run { run.new ≡ run_after run.old (step terms.now self.old call (length run.old)) }
-    {
-        match call {
-            Call::Enter {
-                member,
-                direction,
-                limit,
-                volume,
-            } => {
-                let entry = NewOrder {
-                    member,
-                    direction,
-                    limit,
-                    volume,
-                };
-                self.enter(terms, entry, run)
-            }
-            Call::Alter {
-                member,
-                number,
-                price,
-                volume,
-            } => {
-                let wanted = Wanted {
-                    member,
-                    number,
-                    price,
-                    volume,
-                };
-                self.alter(terms, wanted, run)
-            }
-            Call::Withdraw { member, number } => self.withdraw(member, number),
-            Call::Advance => self.advance(terms, run),
-        }
     }
 }

@@ -3,15 +3,15 @@ ghost use Rattle.std.specs.Prelude.{◌≡◌, ◌<◌, true, length};
 ghost use Rattle.rules.specs.Side.{opposite};
 ghost use Rattle.tables.specs.Meaning.{listed, takes};
 ghost use Rattle.book.specs.declared.call.Call.TheVariants.{Enter};
-ghost use Rattle.book.specs.Day.{limit_price as price_for, entering, lapse_left};
-ghost use Rattle.book.specs.Day.{held_left as held_of, stand_left, arrived, entered, step};
-ghost use Rattle.book.specs.Model.{moved};
+ghost use Rattle.book.specs.Calls.{limit_price as price_for, order_of as order_made, lapse_left, held_left as held_of, stand_left, entry_trading, entry_of, step};
+ghost use Rattle.book.specs.Model.{day_after};
 ghost use Rattle.market.specs.Fills.{fill_of};
-ghost use Rattle.market.specs.Outcome.{told, answered, run_after, written_into};
+ghost use Rattle.market.specs.Outcome.{told_as, answered, run_after, written_into};
 
 use crate::day::Day;
 use crate::fills::sweep;
-use book::answer::{Answer, Told};
+use book::answer::{Answer, Entered, Told};
+use book::call::NewOrder;
 use book::slip::Slip;
 use rules::order::{Direction, Order};
 use rules::refusal::Refusal;
@@ -28,15 +28,6 @@ pub struct Fill {
     pub written: usize,
 }
 
-// What a caller wants to enter.
-#[derive(Clone, Copy)]
-pub struct NewOrder {
-    pub member: u32,
-    pub direction: Direction,
-    pub limit: Option<u32>,
-    pub volume: u32,
-}
-
 fn limit_price(terms: &Terms, direction: Direction, limit: Option<u32>) -> u32
     ensures { result ≡ price_for terms.now direction limit }
 {
@@ -49,17 +40,16 @@ fn limit_price(terms: &Terms, direction: Direction, limit: Option<u32>) -> u32
 }
 
 // The order that an entry makes with the arrival, which is its number too.
-fn order_of(terms: &Terms, arrival: u32, entry: NewOrder) -> Order
-    ensures { result
-        ≡ entering terms.now arrival entry.member entry.direction entry.limit entry.volume }
+fn order_of(terms: &Terms, arrival: u32, new: NewOrder) -> Order
+    ensures { result ≡ order_made terms.now arrival new }
 {
     Order {
         number: arrival,
-        member: entry.member,
-        direction: entry.direction,
-        price: limit_price(terms, entry.direction, entry.limit),
-        market: entry.limit.is_none(),
-        volume: entry.volume,
+        member: new.member,
+        direction: new.direction,
+        price: limit_price(terms, new.direction, new.limit),
+        market: new.limit.is_none(),
+        volume: new.volume,
         arrival,
     }
 }
@@ -106,11 +96,11 @@ fn arrive_on<S: Side, T: Table>(table: &mut T, order: Order, run: &mut [Slip]) -
     requires room { takes (T.Table.contents table.old) order ≡ true }
     requires long { length (listed (opposite order.direction) (T.Table.contents table.old))
         < length run.old }
-    ensures fill { result ≡ fill_of (arrived order (T.Table.contents table.old)) }
+    ensures fill { result ≡ fill_of (entry_trading order (T.Table.contents table.old)) }
     ensures table { T.Table.contents table.new
-        ≡ (arrived order (T.Table.contents table.old)).table }
+        ≡ (entry_trading order (T.Table.contents table.old)).table }
     ensures run { run.new
-        ≡ written_into run.old (arrived order (T.Table.contents table.old)).slips }
+        ≡ written_into run.old (entry_trading order (T.Table.contents table.old)).slips }
 {
     let swept = sweep::<S, T>(table, &order, run);
     let lapsed = settle(table, &order, swept.left, &mut run[swept.written..]);
@@ -126,11 +116,11 @@ pub fn arrive<T: Table>(table: &mut T, order: Order, run: &mut [Slip]) -> Fill
     requires room { takes (T.Table.contents table.old) order ≡ true }
     requires long { length (listed (opposite order.direction) (T.Table.contents table.old))
         < length run.old }
-    ensures fill { result ≡ fill_of (arrived order (T.Table.contents table.old)) }
+    ensures fill { result ≡ fill_of (entry_trading order (T.Table.contents table.old)) }
     ensures table { T.Table.contents table.new
-        ≡ (arrived order (T.Table.contents table.old)).table }
+        ≡ (entry_trading order (T.Table.contents table.old)).table }
     ensures run { run.new
-        ≡ written_into run.old (arrived order (T.Table.contents table.old)).slips }
+        ≡ written_into run.old (entry_trading order (T.Table.contents table.old)).slips }
 {
     match order.direction {
         Direction::Buy => arrive_on::<Buys, T>(table, order, run),
@@ -144,11 +134,11 @@ pub fn let_in<T: Table>(table: &mut T, order: Order, trades: bool, run: &mut [Sl
     requires long { trades ≡ true
         → length (listed (opposite order.direction) (T.Table.contents table.old))
         < length run.old }
-    ensures fill { result ≡ fill_of (entered trades order (T.Table.contents table.old)) }
+    ensures fill { result ≡ fill_of (entry_of trades order (T.Table.contents table.old)) }
     ensures table { T.Table.contents table.new
-        ≡ (entered trades order (T.Table.contents table.old)).table }
+        ≡ (entry_of trades order (T.Table.contents table.old)).table }
     ensures run { run.new
-        ≡ written_into run.old (entered trades order (T.Table.contents table.old)).slips }
+        ≡ written_into run.old (entry_of trades order (T.Table.contents table.old)).slips }
 {
     if trades {
         return arrive(table, order, run);
@@ -167,21 +157,21 @@ impl<T: Table> Day<T> {
     pub fn enter(
         &mut self,
         terms: &Terms,
-        entry: NewOrder,
+        new: NewOrder,
         run: &mut [Slip],
-    ) -> Result<Answer, Refusal>
-        ensures answer { let call = Enter entry.member entry.direction entry.limit entry.volume in
-            told result ≡ answered (step terms.now self.old call (length run.old)) }
-        ensures day { let call = Enter entry.member entry.direction entry.limit entry.volume in
-            self.new ≡ moved self.old (step terms.now self.old call (length run.old)) }
-        ensures run { let call = Enter entry.member entry.direction entry.limit entry.volume in
-            run.new ≡ run_after run.old (step terms.now self.old call (length run.old)) }
+    ) -> Result<Answer<Entered>, Refusal>
+        ensures answer { told_as Told.Entered result
+            ≡ answered (step terms.now self.old (Enter new) (length run.old)) }
+        ensures day { self.new
+            ≡ day_after self.old (step terms.now self.old (Enter new) (length run.old)) }
+        ensures run { run.new
+            ≡ run_after run.old (step terms.now self.old (Enter new) (length run.old)) }
     {
-        self.check_enter(terms, entry, run.len())?;
+        self.check_enter(terms, new, run.len())?;
         self.tally += 1;
-        let order = order_of(terms, self.tally, entry);
+        let order = order_of(terms, self.tally, new);
         let fill = let_in(&mut self.table, order, self.stage.is_open(), run);
-        let told = Told::Entered {
+        let told = Entered {
             number: order.number,
             traded: fill.traded,
             held: fill.held,

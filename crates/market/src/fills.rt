@@ -3,7 +3,7 @@ ghost use Rattle.std.specs.Prelude.{◌≡◌, ◌-◌, ◌≤◌, Some, length}
 ghost use Rattle.std.specs.List.{slice_get};
 ghost use Rattle.rules.specs.Side.{opposite};
 ghost use Rattle.tables.specs.Meaning.{listed};
-ghost use Rattle.book.specs.Day.{trade as trade_of, sweep_of, dealt};
+ghost use Rattle.book.specs.Calls.{trade as trade_of, sweep_of, with_rest};
 ghost use Rattle.market.specs.Fills.{took_on};
 ghost use Rattle.market.specs.Outcome.{written_into};
 
@@ -69,7 +69,7 @@ pub fn sweep<S: Side, T: Table>(table: &mut T, order: &Order, run: &mut [Slip]) 
     ensures written { result.written
         ≡ length (sweep_of order.now (T.Table.contents table.old)).slips }
     ensures table { let old = T.Table.contents table.old in
-        T.Table.contents table.new ≡ dealt S.Quotes.way (sweep_of order.now old).rest old }
+        T.Table.contents table.new ≡ with_rest S.Quotes.way (sweep_of order.now old).rest old }
     ensures run { run.new
         ≡ written_into run.old (sweep_of order.now (T.Table.contents table.old)).slips }
 {

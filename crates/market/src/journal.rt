@@ -1,11 +1,11 @@
 // A whole list of calls, worked from a new session on, and the journal of what came of each.
 ghost use Rattle.std.specs.Prelude.{◌≡◌, IfOk, IsOk, length};
-ghost use Rattle.market.specs.Outcome.{told, written_into};
+ghost use Rattle.market.specs.Outcome.{by_number, written_into};
 ghost use Rattle.market.specs.Works.{counted};
 ghost use Rattle.market.specs.Journaled.{Journaled, Follows, run_through};
 
 use crate::session::Session;
-use book::answer::Answer;
+use book::answer::{Answer, Told};
 use book::call::Call;
 use book::slip::Slip;
 use rules::refusal::Refusal;
@@ -18,13 +18,13 @@ use tables::table::Table;
 pub struct Entry {
     pub call: Call,
     pub room: usize,
-    pub answer: Result<Answer, Refusal>,
+    pub answer: Result<Answer<Told>, Refusal>,
     pub slips: Vec<Slip>,
 }
 
 // The slips that an answer counts; a refusal counts none.
-fn written(answer: &Result<Answer, Refusal>) -> usize
-    ensures { result ≡ counted (told answer.now) }
+fn written(answer: &Result<Answer<Told>, Refusal>) -> usize
+    ensures { result ≡ counted (by_number answer.now) }
 {
     match answer {
         Ok(accepted) => accepted.slips,

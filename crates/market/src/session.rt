@@ -2,16 +2,15 @@
 ghost use Rattle.std.specs.Prelude.{◌≡◌, length};
 ghost use Rattle.book.specs.Marks.{reference_left};
 ghost use Rattle.book.specs.declared.call.Call.TheVariants.{Enter, Alter, Withdraw, Advance};
-ghost use Rattle.market.specs.Outcome.{told};
-ghost use Rattle.market.specs.Works.{opened, came_to, works, Lawfully, EndsAs};
+ghost use Rattle.market.specs.Outcome.{by_number, told_as};
+ghost use Rattle.market.specs.Works.{opened, followed, came_to, works, Lawfully, EndsAs};
 
 use crate::day::Day;
 use crate::marks::marks_after;
-use book::answer::Answer;
-use book::call::Call;
+use book::answer::{Advanced, Altered, Answer, Entered, Told, Withdrawn};
+use book::call::{Alteration, Call, NewOrder, Withdrawal};
 use book::slip::Slip;
 use book::stage::Stage;
-use rules::order::Direction;
 use rules::reference::{DayRecord, EndedDay};
 use rules::refusal::Refusal;
 use rules::terms::Terms;
@@ -66,82 +65,104 @@ impl<T: Table> Session<T> {
         EndedDay::new(&terms, left)
     }
 
-    // Works any call, over a run of any length.
-    pub fn work(&mut self, call: Call, run: &mut [Slip]) -> Result<Answer, Refusal>
-        ensures outcome { came_to (told result) self.new run.new ≡ works self.old call run.old }
-        ensures lawful { Lawfully self.old call (length run.old)
-            (came_to (told result) self.new run.new) }
+    // What the next reference price needs, after an accepted call that was made in this stage and wrote these slips.
+    fn follow(&mut self, stage: Stage, call: Call, slips: &[Slip])
+        ensures { self.new ≡ followed self.old stage call slips.now }
     {
-        let stage = self.day.stage();
-        let answer = self.day.work(&self.terms, call, run)?;
-        let slips = &run[..answer.slips];
         self.marks = marks_after(&self.terms, stage, &call, self.marks, slips, &self.day);
-        Ok(answer)
     }
 
-    pub fn enter(
-        &mut self,
-        member: u32,
-        direction: Direction,
-        limit: Option<u32>,
-        volume: u32,
-        run: &mut [Slip],
-    ) -> Result<Answer, Refusal>
-        ensures outcome { came_to (told result) self.new run.new
-            ≡ works self.old (Enter member direction limit volume) run.old }
-        ensures lawful { Lawfully self.old (Enter member direction limit volume) (length run.old)
-            (came_to (told result) self.new run.new) }
+    pub fn enter(&mut self, new: NewOrder, run: &mut [Slip]) -> Result<Answer<Entered>, Refusal>
+        ensures outcome { came_to (told_as Told.Entered result) self.new run.new
+            ≡ works self.old (Enter new) run.old }
+        ensures lawful { Lawfully self.old (Enter new) (length run.old)
+            (came_to (told_as Told.Entered result) self.new run.new) }
     {
-        let call = Call::Enter {
-            member,
-            direction,
-            limit,
-            volume,
-        };
-        self.work(call, run)
+        let stage = self.day.stage();
+        let answer = self.day.enter(&self.terms, new, run)?;
+        self.follow(stage, Call::Enter(new), &run[..answer.slips]);
+        Ok(answer)
     }
 
     pub fn alter(
         &mut self,
-        member: u32,
-        number: u32,
-        price: u32,
-        volume: u32,
+        wanted: Alteration,
         run: &mut [Slip],
-    ) -> Result<Answer, Refusal>
-        ensures outcome { came_to (told result) self.new run.new
-            ≡ works self.old (Alter member number price volume) run.old }
-        ensures lawful { Lawfully self.old (Alter member number price volume) (length run.old)
-            (came_to (told result) self.new run.new) }
+    ) -> Result<Answer<Altered>, Refusal>
+        ensures outcome { came_to (told_as Told.Altered result) self.new run.new
+            ≡ works self.old (Alter wanted) run.old }
+        ensures lawful { Lawfully self.old (Alter wanted) (length run.old)
+            (came_to (told_as Told.Altered result) self.new run.new) }
     {
-        let call = Call::Alter {
-            member,
-            number,
-            price,
-            volume,
-        };
-        self.work(call, run)
+        let stage = self.day.stage();
+        let answer = self.day.alter(&self.terms, wanted, run)?;
+        self.follow(stage, Call::Alter(wanted), &run[..answer.slips]);
+        Ok(answer)
     }
 
     pub fn withdraw(
         &mut self,
-        member: u32,
-        number: u32,
+        named: Withdrawal,
         run: &mut [Slip],
-    ) -> Result<Answer, Refusal>
-        ensures outcome { came_to (told result) self.new run.new
-            ≡ works self.old (Withdraw member number) run.old }
-        ensures lawful { Lawfully self.old (Withdraw member number) (length run.old)
-            (came_to (told result) self.new run.new) }
+    ) -> Result<Answer<Withdrawn>, Refusal>
+        ensures outcome { came_to (told_as Told.Withdrawn result) self.new run.new
+            ≡ works self.old (Withdraw named) run.old }
+        ensures lawful { Lawfully self.old (Withdraw named) (length run.old)
+            (came_to (told_as Told.Withdrawn result) self.new run.new) }
     {
-        self.work(Call::Withdraw { member, number }, run)
+        let stage = self.day.stage();
+        let answer = self.day.withdraw(named)?;
+        self.follow(stage, Call::Withdraw(named), &run[..answer.slips]);
+        Ok(answer)
     }
 
-    pub fn advance(&mut self, run: &mut [Slip]) -> Result<Answer, Refusal>
-        ensures outcome { came_to (told result) self.new run.new ≡ works self.old Advance run.old }
+    pub fn advance(&mut self, run: &mut [Slip]) -> Result<Answer<Advanced>, Refusal>
+        ensures outcome { came_to (told_as Told.Advanced result) self.new run.new
+            ≡ works self.old Advance run.old }
         ensures lawful { Lawfully self.old Advance (length run.old)
-            (came_to (told result) self.new run.new) }
+            (came_to (told_as Told.Advanced result) self.new run.new) }
     {
-        self.work(Call::Advance, run)
+        let stage = self.day.stage();
+        let answer = self.day.advance(&self.terms, run)?;
+        self.follow(stage, Call::Advance, &run[..answer.slips]);
+        Ok(answer)
+    }
+
+    // Works any call, over a run of any length.
+    pub fn work(&mut self, call: Call, run: &mut [Slip]) -> Result<Answer<Told>, Refusal>
+        ensures outcome { came_to (by_number result) self.new run.new ≡ works self.old call run.old }
+        ensures lawful { Lawfully self.old call (length run.old)
+            (came_to (by_number result) self.new run.new) }
+    {
+        match call {
+            Call::Enter(new) => {
+                let Answer { told, slips } = self.enter(new, run)?;
+                Ok(Answer {
+                    told: Told::Entered(told),
+                    slips,
+                })
+            }
+            Call::Alter(wanted) => {
+                let Answer { told, slips } = self.alter(wanted, run)?;
+                Ok(Answer {
+                    told: Told::Altered(told),
+                    slips,
+                })
+            }
+            Call::Withdraw(named) => {
+                let Answer { told, slips } = self.withdraw(named, run)?;
+                Ok(Answer {
+                    told: Told::Withdrawn(told),
+                    slips,
+                })
+            }
+            Call::Advance => {
+                let Answer { told, slips } = self.advance(run)?;
+                Ok(Answer {
+                    told: Told::Advanced(told),
+                    slips,
+                })
+            }
+        }
     }
 }

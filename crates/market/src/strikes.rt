@@ -3,10 +3,8 @@ ghost use Rattle.std.specs.Prelude.{◌≡◌, ◌≤◌, ◌++◌, Bool, Some, 
 ghost use Rattle.rules.specs.declared.order.Order.{Order};
 ghost use Rattle.book.specs.declared.slip.Slip.{Slip};
 ghost use Rattle.tables.specs.Meaning.{listed, holding, book_of, each_side};
-ghost use Rattle.book.specs.Rows.{orders_of};
-ghost use Rattle.book.specs.Day.{fixing_price, fixing_trades, match_at, turnover, going_slips};
-ghost use Rattle.book.specs.Day.{staying, lapse as lapse_of, lapses, limits, strike_slips};
-ghost use Rattle.book.specs.Day.{struck_book};
+ghost use Rattle.book.specs.Rows.{order_count};
+ghost use Rattle.book.specs.Calls.{fixing_price, fixing_trades, match_at, turnover, going_slips, staying_orders, lapse_of as lapse_of, lapses, limit_orders, strike_slips, book_after_strike};
 ghost use Rattle.market.specs.Fills.{with_listed};
 ghost use Rattle.market.specs.Outcome.{written_into};
 
@@ -37,8 +35,8 @@ fn price_of<T: Table>(terms: &Terms, table: &T) -> Option<u32>
 
 // The first buy trades with the first sell while both are willing at the price.
 fn pair<T: Table>(table: &mut T, price: u32, run: &mut [Slip]) -> (u128, usize)
-    requires room { orders_of (T.Table.contents table.old) ≤ length run.old }
-    requires few { orders_of (T.Table.contents table.old) ≤ 1000000 }
+    requires room { order_count (T.Table.contents table.old) ≤ length run.old }
+    requires few { order_count (T.Table.contents table.old) ≤ 1000000 }
     ensures traded { let old = (T.Table.contents table.old).book in
         result.0 ≡ turnover (match_at (Some price) old.buys old.sells).slips }
     ensures written { let old = (T.Table.contents table.old).book in
@@ -121,7 +119,7 @@ fn let_go<L: Leaving, T: Table>(
     ensures table { let goes = L.Leaving.goes leaving.now in
         let old = T.Table.contents table.old in
         T.Table.contents table.new
-        ≡ with_listed direction (staying goes (listed direction old)) old }
+        ≡ with_listed direction (staying_orders goes (listed direction old)) old }
     ensures run { let goes = L.Leaving.goes leaving.now in
         let slip = L.Leaving.slip leaving.now in
         let old = listed direction (T.Table.contents table.old) in
@@ -149,7 +147,7 @@ fn lapse<T: Table>(table: &mut T, direction: Direction, run: &mut [Slip]) -> usi
     requires few { length (listed direction (T.Table.contents table.old)) ≤ 1000000 }
     ensures written { result ≡ length (lapses (listed direction (T.Table.contents table.old))) }
     ensures table { let old = T.Table.contents table.old in
-        T.Table.contents table.new ≡ with_listed direction (limits (listed direction old)) old }
+        T.Table.contents table.new ≡ with_listed direction (limit_orders (listed direction old)) old }
     ensures run { run.new
         ≡ written_into run.old (lapses (listed direction (T.Table.contents table.old))) }
 {
@@ -158,8 +156,8 @@ fn lapse<T: Table>(table: &mut T, direction: Direction, run: &mut [Slip]) -> usi
 
 // The trades of a strike: none without a price.
 fn pair_at<T: Table>(table: &mut T, price: Option<u32>, run: &mut [Slip]) -> (u128, usize)
-    requires room { orders_of (T.Table.contents table.old) ≤ length run.old }
-    requires few { orders_of (T.Table.contents table.old) ≤ 1000000 }
+    requires room { order_count (T.Table.contents table.old) ≤ length run.old }
+    requires few { order_count (T.Table.contents table.old) ≤ 1000000 }
     ensures traded { let old = (T.Table.contents table.old).book in
         result.0 ≡ turnover (match_at price old.buys old.sells).slips }
     ensures written { let old = (T.Table.contents table.old).book in
@@ -178,12 +176,12 @@ fn pair_at<T: Table>(table: &mut T, price: Option<u32>, run: &mut [Slip]) -> (u1
 
 // The market orders of both sides lapse, buys first. The slips written.
 fn lapse_both<T: Table>(table: &mut T, run: &mut [Slip]) -> usize
-    requires room { orders_of (T.Table.contents table.old) ≤ length run.old }
-    requires few { orders_of (T.Table.contents table.old) ≤ 1000000 }
+    requires room { order_count (T.Table.contents table.old) ≤ length run.old }
+    requires few { order_count (T.Table.contents table.old) ≤ 1000000 }
     ensures written { let old = (T.Table.contents table.old).book in
         result ≡ length (lapses old.buys ++ lapses old.sells) }
     ensures table { let old = T.Table.contents table.old in
-        T.Table.contents table.new ≡ holding old (each_side limits old.book) }
+        T.Table.contents table.new ≡ holding old (each_side limit_orders old.book) }
     ensures run { let old = (T.Table.contents table.old).book in
         run.new ≡ written_into run.old (lapses old.buys ++ lapses old.sells) }
 {
@@ -193,15 +191,15 @@ fn lapse_both<T: Table>(table: &mut T, run: &mut [Slip]) -> usize
 
 // Trades at the fixing price, if there is one, and then lets the market orders lapse.
 pub fn strike<T: Table>(terms: &Terms, table: &mut T, run: &mut [Slip]) -> Struck
-    requires room { orders_of (T.Table.contents table.old) ≤ length run.old }
-    requires few { orders_of (T.Table.contents table.old) ≤ 1000000 }
+    requires room { order_count (T.Table.contents table.old) ≤ length run.old }
+    requires few { order_count (T.Table.contents table.old) ≤ 1000000 }
     ensures price { result.price ≡ fixing_price terms.now (T.Table.contents table.old).book }
     ensures traded { let trades = fixing_trades terms.now (T.Table.contents table.old).book in
         result.traded ≡ turnover (strike_slips trades) }
     ensures written { let trades = fixing_trades terms.now (T.Table.contents table.old).book in
         result.written ≡ length (strike_slips trades) }
     ensures table { let old = T.Table.contents table.old in
-        T.Table.contents table.new ≡ holding old (struck_book (fixing_trades terms.now old.book)) }
+        T.Table.contents table.new ≡ holding old (book_after_strike (fixing_trades terms.now old.book)) }
     ensures run { let trades = fixing_trades terms.now (T.Table.contents table.old).book in
         run.new ≡ written_into run.old (strike_slips trades) }
 {

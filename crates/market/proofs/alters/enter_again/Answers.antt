@@ -3,7 +3,7 @@ use Rattle.rules.specs.Side.{opposite}
 use Rattle.rules.specs.declared.order.Order.{Order}
 use Rattle.tables.specs.Listing.{without}
 use Rattle.tables.specs.Meaning.{listed, takes}
-use Rattle.book.specs.Day.{entered}
+use Rattle.book.specs.Calls.{entry_of}
 use Rattle.market.proofs.Altering.{Held, looked_up, gone, takes_again, listed_own}
 use Rattle.market.proofs.alters.enter_again.Goals as goal
 
@@ -29,4 +29,4 @@ let_in-requires-clause-long g c = λ trades.
     subst (λ (xs : List Order). length xs < length c.args.run.now) (sym same) (c.requires.long trades)
 
 pub returns-clause-table : goal.returns-clause-table
-returns-clause-table g c = c.let_in.ensures.table ∙ ap (λ z. (entered c.args.trades c.args.order z).table) c.remove.ensures.after
+returns-clause-table g c = c.let_in.ensures.table ∙ ap (λ z. (entry_of c.args.trades c.args.order z).table) c.remove.ensures.after

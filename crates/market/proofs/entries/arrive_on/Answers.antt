@@ -3,7 +3,7 @@ use Rattle.std.proofs.lemmas.Slice.{between_to_end}
 use Rattle.std.proofs.lemmas.List.{length-drop}
 use Rattle.rules.specs.Side.{opposite}
 use Rattle.tables.specs.Meaning.{listed, takes}
-use Rattle.book.specs.Day.{sweep_of, dealt, lapse_left}
+use Rattle.book.specs.Calls.{sweep_of, with_rest, lapse_left}
 use Rattle.book.proofs.Rooms.{sweep_short}
 use Rattle.market.specs.Outcome.{written_into}
 use Rattle.market.proofs.Keeping.{sweep_part, takes_still}
@@ -15,7 +15,7 @@ settle-lapsed-requires-clause-room g c =
     let o = c.args.order in
     let t = g.T.Table.contents c.args.table.now in
     let w = sweep_of o t in
-    let after = c.sweep-swept.ensures.table ∙ ap (λ d. dealt d w.rest t) (sym c.requires.side) in
+    let after = c.sweep-swept.ensures.table ∙ ap (λ d. with_rest d w.rest t) (sym c.requires.side) in
     subst (λ z. takes z o ≡ true) (sym after)
     (takes_still t o w.rest (sweep_part o.direction o.number o.price (listed (opposite o.direction) t) o.volume) c.requires.room)
 

@@ -4,7 +4,7 @@ use Rattle.std.proofs.lemmas.List.{take_more_set, length-take-le}
 use Rattle.std.specs.List.{slice_get}
 use Rattle.rules.specs.Side.{opposite, willing}
 use Rattle.tables.specs.Meaning.{listed}
-use Rattle.book.specs.Day.{Swept, sweep, sweep_of}
+use Rattle.book.specs.Calls.{Sweep, sweep, sweep_of}
 use Rattle.market.specs.Fills.{took, took_on, with_listed}
 use Rattle.market.specs.Outcome.{written_into}
 use Rattle.market.proofs.Taking.{listed_side}
@@ -103,14 +103,14 @@ returns g c =
     ] in
     let whole : sweep_of c.args.order.now old ≡ after (take k c.orders.run) (still (listed a t) v) =
     ap (λ z. sweep z n p (listed (opposite z) old) c.args.order.now.volume) c.requires.side ∙ inv.sweep ∙ ap (after (take k c.orders.run)) end in
-    let slips : take k c.orders.run ≡ (sweep_of c.args.order.now old).slips = sym (ap (λ (s : Swept). s.slips) whole ∙ append-nil (take k c.orders.run)) in
+    let slips : take k c.orders.run ≡ (sweep_of c.args.order.now old).slips = sym (ap (λ (s : Sweep). s.slips) whole ∙ append-nil (take k c.orders.run)) in
     let is : c.match-at.traded ≡ (c.orders.traded, v) = elim c.match-at.branch [ in_default w ↦ w.traded-is | in-Some+then-left-eq0 w ↦ w.traded-is ] in
     let traded = ap (λ (z : ℕ × ℕ). z.0) is in
     let left = ap (λ (z : ℕ × ℕ). z.1) is in
     record {
       traded = omega (arith, traded, left, inv.shared, c.from.ensures);
-      left = left ∙ sym (ap (λ (s : Swept). s.left) whole);
+      left = left ∙ sym (ap (λ (s : Sweep). s.left) whole);
       written = sym (length-take-le k c.orders.run inv.fits) ∙ ap length slips;
-      table = inv.table ∙ ap (λ xs. with_listed a xs old) (sym (ap (λ (s : Swept). s.rest) whole));
+      table = inv.table ∙ ap (λ xs. with_listed a xs old) (sym (ap (λ (s : Sweep). s.rest) whole));
       run = written_so_far k c.orders.run c.args.run.now inv.run inv.fits ∙ ap (written_into c.args.run.now) slips;
     }

@@ -1,6 +1,6 @@
 use Rattle.std.proofs.Common.{arith, take, length, refl, ap, ◌∙◌}
 use Rattle.std.proofs.lemmas.List.{length-take}
-use Rattle.market.specs.Outcome.{told}
+use Rattle.market.specs.Outcome.{by_number}
 use Rattle.market.specs.Works.{came_to}
 use Rattle.market.proofs.Journals.{follows, run_is}
 use Rattle.market.proofs.Working.{fits}
@@ -8,12 +8,12 @@ use Rattle.market.proofs.journal.enter_line.Goals as goal
 
 pub slice_bounds-from_slice-end : goal.slice_bounds-from_slice-end
 slice_bounds-from_slice-end g c =
-    let k = fits c.args.session.now c.args.call c.args.run.now (came_to (told c.work-answer.result) c.work-answer.new.self c.work-answer.new.run) c.work-answer.ensures.outcome in
+    let k = fits c.args.session.now c.args.call c.args.run.now (came_to (by_number c.work-answer.result) c.work-answer.new.self c.work-answer.new.run) c.work-answer.ensures.outcome in
     omega (arith, k, c.written.ensures)
 
 pub slice_bounds-from_slice-end-2 : goal.slice_bounds-from_slice-end-2
 slice_bounds-from_slice-end-2 g c =
-    let k = fits c.args.session.now c.args.call c.args.run.now (came_to (told c.work-answer.result) c.work-answer.new.self c.work-answer.new.run) c.work-answer.ensures.outcome in
+    let k = fits c.args.session.now c.args.call c.args.run.now (came_to (by_number c.work-answer.result) c.work-answer.new.self c.work-answer.new.run) c.work-answer.ensures.outcome in
     omega (arith, k, c.written.ensures, length-take c.written.result c.work-answer.new.run)
 
 pub returns-clause-follows : goal.returns-clause-follows

@@ -2,7 +2,7 @@ use Rattle.std.proofs.Common.{◌≡◌, ◌<◌, [], ◌∷◌, ◌++◌, lengt
 use Rattle.std.proofs.lemmas.List.{take_more_set, length-take-le}
 use Rattle.std.specs.List.{slice_get, remove}
 use Rattle.tables.specs.Meaning.{listed, said}
-use Rattle.book.specs.Day.{going_slips}
+use Rattle.book.specs.Calls.{going_slips}
 use Rattle.market.specs.Fills.{with_listed}
 use Rattle.market.specs.Outcome.{written_into}
 use Rattle.market.proofs.Taking.{get_below, is_held, removed_at_rank}

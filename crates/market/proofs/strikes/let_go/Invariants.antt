@@ -1,6 +1,6 @@
 use Rattle.std.proofs.Common.{◌≡◌, ◌+◌, ◌-◌, ◌≤◌, ◌++◌, length, take, drop}
 use Rattle.tables.specs.Meaning.{listed}
-use Rattle.book.specs.Day.{going_slips, staying}
+use Rattle.book.specs.Calls.{going_slips, staying_orders}
 use Rattle.market.specs.Fills.{with_listed}
 use Rattle.market.proofs.Lapsing.{going_from, staying_from}
 use Rattle.market.proofs.strikes.let_go.Given as goal
@@ -11,7 +11,7 @@ invariant-orders g l =
     let d = l.direction in
     record {
       slips : going_slips (g.L.Leaving.goes l.leaving) (g.L.Leaving.slip l.leaving) (listed d (m l.initial.table)) ≡ take l.written l.run ++ going_from (g.L.Leaving.goes l.leaving) (g.L.Leaving.slip l.leaving) l.rank (listed d (m l.table));
-      rest : staying (g.L.Leaving.goes l.leaving) (listed d (m l.initial.table)) ≡ staying_from (g.L.Leaving.goes l.leaving) (g.L.Leaving.slip l.leaving) l.rank (listed d (m l.table));
+      rest : staying_orders (g.L.Leaving.goes l.leaving) (listed d (m l.initial.table)) ≡ staying_from (g.L.Leaving.goes l.leaving) (g.L.Leaving.slip l.leaving) l.rank (listed d (m l.table));
       table : m l.table ≡ with_listed d (listed d (m l.table)) (m l.initial.table);
       run : drop l.written l.run ≡ drop l.written l.initial.run;
       fits : l.written ≤ length l.run;

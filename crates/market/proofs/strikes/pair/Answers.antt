@@ -5,8 +5,8 @@ use Rattle.std.specs.List.{slice_get}
 use Rattle.rules.specs.Side.{willing}
 use Rattle.rules.specs.declared.order.Direction.TheVariants.{Buy, Sell}
 use Rattle.book.specs.declared.slip.Slip.TheVariants.{Trade}
-use Rattle.book.specs.Rows.{orders_of}
-use Rattle.book.specs.Day.{pair, turnover}
+use Rattle.book.specs.Rows.{order_count}
+use Rattle.book.specs.Calls.{pair, turnover}
 use Rattle.market.specs.Fills.{took, took_on}
 use Rattle.market.proofs.Taking.{get_below}
 use Rattle.market.proofs.Writing.{same_behind}
@@ -42,7 +42,7 @@ pairs-smaller g c =
     let hs : slice_get t.book.sells 0 ≡ Some s = let x = c.in-Some-Some.is-1 in let y = c.at-in-pairs.ensures in cc in
     let after = both_taken t (g.met.T.Table.sound c.pairs.table) m b s hb hs _ c.take.ensures _ c.take-in-pairs.ensures in
     let fewer = took_fewer c.args.price t b s hb hs m c.min-volume.ensures in
-    omega (arith, ap orders_of after, fewer)
+    omega (arith, ap order_count after, fewer)
 
 pub bounds-run-written : goal.bounds-run-written
 bounds-run-written g c =
@@ -66,7 +66,7 @@ pairs-preserved g c =
     let last = g.T.Table.contents c.take-in-pairs.new.table in
     let table : last ≡ took_on Sell m (took_on Buy m t) = both_taken t (g.met.T.Table.sound c.pairs.table) m b s hb hs _ c.take.ensures _ c.take-in-pairs.ensures in
     let fewer = took_fewer p t b s hb hs m c.min-volume.ensures in
-    let is : orders_of last ≡ length (took m t.book.buys) + length (took m t.book.sells) = ap orders_of table in
+    let is : order_count last ≡ length (took m t.book.buys) + length (took m t.book.sells) = ap order_count table in
     let goes : Both p b s ≡ true = and_from (willing Buy b.price p) (willing Sell s.price p) (let x = c.if-not-willing.false in let y = c.willing.ensures in cc) (let x = c.if-not-willing-2.false in let y = c.willing-else-not-willing.ensures in cc) in
     let turn = pair_turn p t b s hb hs m goes c.min-volume.ensures in
     let inv = c.pairs.invariant in
@@ -76,7 +76,7 @@ pairs-preserved g c =
     record {
       pairs =
           inv.pairs ∙ ap (after (take k c.pairs.run)) turn ∙ sym (after_more (take k c.pairs.run) slip _)
-          ∙ (λ i. after (sym more i) (pair p (orders_of (sym table i)) (sym table i).book.buys (sym table i).book.sells));
+          ∙ (λ i. after (sym more i) (pair p (order_count (sym table i)) (sym table i).book.buys (sym table i).book.sells));
       traded = omega (arith, ap turnover more, turnover_append (take k c.pairs.run) (slip ∷ []), inv.traded, same);
       capacity = ap (λ z. z.capacity) table ∙ inv.capacity;
       run = same_behind k c.pairs.run c.args.run.now inv.run slip;
@@ -90,7 +90,7 @@ returns-in_default g c =
     let t = g.T.Table.contents c.pairs.table in
     let p = c.args.price in
     let nothing : slice_get t.book.sells 0 ≡ None = let x = c.in_default.is-1 in let y = c.at-in-pairs.ensures in cc in
-    let end : pair p (orders_of t) t.book.buys t.book.sells ≡ still t.book.buys t.book.sells = none_sell p (orders_of t) t.book.buys t.book.sells nothing in
+    let end : pair p (order_count t) t.book.buys t.book.sells ≡ still t.book.buys t.book.sells = none_sell p (order_count t) t.book.buys t.book.sells nothing in
     let e = ended p (g.T.Table.contents c.args.table.now) t c.args.run.now c.pairs.run c.pairs.traded c.pairs.written c.pairs.invariant.traded c.pairs.invariant.capacity c.pairs.invariant.run c.pairs.invariant.fits (c.pairs.invariant.pairs ∙ ap (after (take c.pairs.written c.pairs.run)) end) in
     record { traded = e.traded; written = e.written; table = e.table; run = e.run }
 
@@ -99,7 +99,7 @@ returns-in_default-2 g c =
     let t = g.T.Table.contents c.pairs.table in
     let p = c.args.price in
     let nothing : slice_get t.book.buys 0 ≡ None = let x = c.in_default.is-0 in let y = c.at.ensures in cc in
-    let end : pair p (orders_of t) t.book.buys t.book.sells ≡ still t.book.buys t.book.sells = none p (orders_of t) t.book.buys t.book.sells nothing in
+    let end : pair p (order_count t) t.book.buys t.book.sells ≡ still t.book.buys t.book.sells = none p (order_count t) t.book.buys t.book.sells nothing in
     let e = ended p (g.T.Table.contents c.args.table.now) t c.args.run.now c.pairs.run c.pairs.traded c.pairs.written c.pairs.invariant.traded c.pairs.invariant.capacity c.pairs.invariant.run c.pairs.invariant.fits (c.pairs.invariant.pairs ∙ ap (after (take c.pairs.written c.pairs.run)) end) in
     record { traded = e.traded; written = e.written; table = e.table; run = e.run }
 
@@ -116,6 +116,6 @@ returns-then-not-willing g c =
       | then-not-willing-via-then-not-willing w ↦ and_left (willing Buy b.price p) (willing Sell s.price p) (let x = w.if-not-willing.true in let y = c.willing.ensures in cc)
       | then-not-willing-via-else-not-willing+then-not-willing-2 w ↦ and_right (willing Buy b.price p) (willing Sell s.price p) (let x = w.if-not-willing-2.true in let y = w.willing-else-not-willing.ensures in cc)
     ] in
-    let end : pair p (orders_of t) t.book.buys t.book.sells ≡ still t.book.buys t.book.sells = pair_stop p t b s hb hs stops in
+    let end : pair p (order_count t) t.book.buys t.book.sells ≡ still t.book.buys t.book.sells = pair_stop p t b s hb hs stops in
     let e = ended p (g.T.Table.contents c.args.table.now) t c.args.run.now c.pairs.run c.pairs.traded c.pairs.written c.pairs.invariant.traded c.pairs.invariant.capacity c.pairs.invariant.run c.pairs.invariant.fits (c.pairs.invariant.pairs ∙ ap (after (take c.pairs.written c.pairs.run)) end) in
     record { traded = e.traded; written = e.written; table = e.table; run = e.run }

@@ -6,18 +6,15 @@ use Rattle.market.proofs.day.Day.enter.Goals as goal
 
 pub let_in-fill-requires-clause-room : goal.let_in-fill-requires-clause-room
 let_in-fill-requires-clause-room g c =
-    let e = c.args.entry in
-    takes_entering c.args.terms.now c.args.self.now (length c.args.run.now) _ c.self.view_is c.self.invariant e.member e.direction e.limit e.volume
+    takes_entering c.args.terms.now c.args.self.now (length c.args.run.now) _ c.self.view_is c.self.invariant c.args.new
     c.in_ok-check_enter.ensures _ c.order_of-order.ensures
 
 pub returns-clause-day : goal.returns-clause-day
 returns-clause-day g c =
-    let e = c.args.entry in
-    entered_day c.args.terms.now c.args.self.now (length c.args.run.now) _ c.self.view_is e.member e.direction e.limit e.volume c.in_ok-check_enter.ensures _ _ _
+    entered_day c.args.terms.now c.args.self.now (length c.args.run.now) _ c.self.view_is c.args.new c.in_ok-check_enter.ensures _ _ _
     c.is_open.ensures c.order_of-order.ensures c.let_in-fill.ensures.table
 
 pub invariant_of-self : goal.invariant_of-self
 invariant_of-self g c =
-    let e = c.args.entry in
     kept_after _ c.self.invariant c.args.self.now c.self.view_is (g.met.T.Table.sound c.self.inside.table) c.args.terms.now
-    (Enter e.member e.direction e.limit e.volume) (length c.args.run.now) _ (returns-clause-day g c)
+    (Enter c.args.new) (length c.args.run.now) _ (returns-clause-day g c)

@@ -10,9 +10,9 @@ invariant_of-self g c =
     let s = c.self.inside in
     let t : Contents = g.T.Table.contents s.table in
     subst (λ x. Kept (record { stage = s.stage; tally = s.tally; table = x })) (sym c.remove.ensures.after)
-    (kept_as_many _ c.self.invariant s.stage (removed c.args.number t) (removed_fewer c.args.number t))
+    (kept_as_many _ c.self.invariant s.stage (removed c.args.named.number t) (removed_fewer c.args.named.number t))
 
 pub returns-clause-day : goal.returns-clause-day
 returns-clause-day g c = λ terms room.
-    withdrawn_day terms c.args.self.now room _ c.self.view_is c.args.member c.args.number c.in_ok-order.order c.in_ok-order.ensures
-    _ c.remove.ensures.after
+    withdrawn_day terms c.args.self.now room _ c.self.view_is c.args.named c.in_ok-order.order c.in_ok-order.ensures.rows
+    c.in_ok-order.ensures.named _ c.remove.ensures.after
