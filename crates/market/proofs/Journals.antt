@@ -19,12 +19,12 @@ use Rattle.book.specs.Model.{model, day_after, what_came, day_after_tries}
 use Rattle.book.proofs.Leading.{leads_agrees}
 use Rattle.market.specs.declared.journal.Entry.{Entry}
 use Rattle.market.specs.Outcome.{by_number, written_into}
-use Rattle.market.specs.Works.{Seen, opened, counted, verdict, Worked, works, came_to}
+use Rattle.market.specs.Works.{Seen, session_start, slips_counted, verdict, Work, by_the_rules, came_to}
 use Rattle.market.specs.Journaled.{verdict_of, line_in, run_through, Follows, Asked, Tells, tries, lines, Journaled}
 use Rattle.market.proofs.Working.{lawfully, wrote}
 
 -- what was copied is what the answer counts
-pub verdict_same : (r : Result (Answer Told) Refusal) (run : List Slip) → verdict (by_number r) run ≡ verdict_of r (take (counted (by_number r)) run)
+pub verdict_same : (r : Result (Answer Told) Refusal) (run : List Slip) → verdict (by_number r) run ≡ verdict_of r (take (slips_counted (by_number r)) run)
 verdict_same (Ok a) run = refl
 verdict_same (Err e) run = refl
 
@@ -61,7 +61,7 @@ pub record Gone (t : Terms) (cap : Capacity) (calls : List Call) (room : ℕ) (e
 shown_after : (t : Terms) (cap : Capacity) (past : List Line) (s : Session) → Leads t cap past s → Shown (books t past) s.day.table.book
 shown_after t cap past s h = (leads_agrees t cap past s h).inv.shown
 
-pub begins : (t : Terms) (cap : Capacity) (room : ℕ) (s : Seen) → s ≡ opened t cap → Gone t cap [] room [] s
+pub begins : (t : Terms) (cap : Capacity) (room : ℕ) (s : Seen) → s ≡ session_start t cap → Gone t cap [] room [] s
 begins t cap room s e =
     let leads : s.session ≡ new_session cap = ap (λ (x : Seen). x.session) e in
     record {
@@ -130,15 +130,15 @@ all_gone t cap calls room es s h =
 
 -- One call ------------------------------------------------------------------------------------------------------------------
 
-module _ (s s' : Seen) (c : Call) (run run' : List Slip) (r : Result (Answer Told) Refusal) (is : came_to (by_number r) s' run' ≡ works s c run)
-    (e : Entry) (answer_is : e.answer ≡ r) (slips_is : e.slips.items ≡ take (counted (by_number r)) run') where
+module _ (s s' : Seen) (c : Call) (run run' : List Slip) (r : Result (Answer Told) Refusal) (is : came_to (by_number r) s' run' ≡ by_the_rules s c run)
+    (e : Entry) (answer_is : e.answer ≡ r) (slips_is : e.slips.items ≡ take (slips_counted (by_number r)) run') where
   -- a call that was worked, and copied with its slips
   pub follows : e.call ≡ c → e.room ≡ length run → Follows s c (length run) e s'
   follows call_is room_is =
       record {
         call_is = call_is;
         room_is = room_is;
-        terms = ap (λ (w : Worked). w.after.terms) is;
+        terms = ap (λ (w : Work). w.after.terms) is;
         goes_on =
             λ cap.
             subst (λ x. GoesOn s.terms cap s.session x s'.session)

@@ -13,7 +13,7 @@ use Rattle.market.specs.Outcome.{written_into}
 use Rattle.market.proofs.Writing.{written_so_far}
 use Rattle.book.specs.Calls.{Pairing, match_at, pair, trade_then as slipped, turnover}
 use Rattle.book.specs.Rows.{order_count}
-use Rattle.market.specs.Fills.{took, took_on}
+use Rattle.market.specs.Fills.{first_taken, first_taken_on}
 use Rattle.market.proofs.Taking.{first_list, listed_side}
 use Rattle.market.proofs.Sweeping.{took_most}
 
@@ -35,12 +35,12 @@ turnover_append (Lapse n v ∷ xs) ys = turnover_append xs ys
 abbrev pub still : List Order → List Order → Pairing
 still bs ss = record { slips = []; buys = bs; sells = ss }
 
-took_one : (m : ℕ) (o : Order) (os : List Order) → o.volume ≤ m → length (took m (o ∷ os)) ≡ length os
+took_one : (m : ℕ) (o : Order) (os : List Order) → o.volume ≤ m → length (first_taken m (o ∷ os)) ≡ length os
 took_one m o os e = ap length (cond-true _ os _ (le-leb o.volume m e))
 
 -- a trade for the smaller volume takes one order out at least
 pub took_pair : (m : ℕ) (b s : Order) (bs ss : List Order) → m ≡ min b.volume s.volume →
-    length (took m (b ∷ bs)) + length (took m (s ∷ ss)) < length (b ∷ bs) + length (s ∷ ss)
+    length (first_taken m (b ∷ bs)) + length (first_taken m (s ∷ ss)) < length (b ∷ bs) + length (s ∷ ss)
 took_pair m b s bs ss e =
     ⊎_elim
     (λ k. omega (arith, took_one m b bs (omega arith), took_most m (s ∷ ss)))
@@ -49,7 +49,7 @@ took_pair m b s bs ss e =
 
 module _ (p : ℕ) where
   turn : (n m : ℕ) (b s : Order) (bs ss : List Order) → Both p b s ≡ true → m ≡ min b.volume s.volume →
-      pair p (suc n) (b ∷ bs) (s ∷ ss) ≡ slipped (Trade b.number s.number p m) (pair p n (took m (b ∷ bs)) (took m (s ∷ ss)))
+      pair p (suc n) (b ∷ bs) (s ∷ ss) ≡ slipped (Trade b.number s.number p m) (pair p n (first_taken m (b ∷ bs)) (first_taken m (s ∷ ss)))
   turn n m b s bs ss h e = rw e (cond-true _ _ _ h)
 
   pub none : (n : ℕ) (bs ss : List Order) → slice_get bs 0 ≡ None → pair p n bs ss ≡ still bs ss
@@ -76,7 +76,7 @@ module _ (p : ℕ) where
   enough (suc n) (suc k) (b ∷ bs) (s ∷ ss) x y =
       let m = min b.volume s.volume in
       let less = took_pair m b s bs ss refl in
-      let ih = enough n k (took m (b ∷ bs)) (took m (s ∷ ss)) (omega arith) (omega arith) in
+      let ih = enough n k (first_taken m (b ∷ bs)) (first_taken m (s ∷ ss)) (omega arith) (omega arith) in
       ⊎_elim
       (λ t. turn n m b s bs ss t refl ∙ ap (slipped (Trade b.number s.number p m)) ih ∙ sym (turn k m b s bs ss t refl))
       (λ t. stop (suc n) b s bs ss t ∙ sym (stop (suc k) b s bs ss t))
@@ -95,21 +95,21 @@ module _ (p : ℕ) where
 
     pub pair_turn : (m : ℕ) → Both p b s ≡ true → m ≡ min b.volume s.volume →
         pair p (order_count c) c.book.buys c.book.sells
-        ≡ slipped (Trade b.number s.number p m) (pair p (length (took m c.book.buys) + length (took m c.book.sells)) (took m c.book.buys) (took m c.book.sells))
+        ≡ slipped (Trade b.number s.number p m) (pair p (length (first_taken m c.book.buys) + length (first_taken m c.book.sells)) (first_taken m c.book.buys) (first_taken m c.book.sells))
     pair_turn m h e =
         let n = order_count c in
-        let bs = took m c.book.buys in
-        let ss = took m c.book.sells in
+        let bs = first_taken m c.book.buys in
+        let ss = first_taken m c.book.sells in
         let slip = Trade b.number s.number p m in
         let more = enough n (suc n) c.book.buys c.book.sells (omega arith) (omega arith) in
         let one : pair p (suc n) c.book.buys c.book.sells ≡ slipped slip (pair p n bs ss) =
-        (λ i. pair p (suc n) (f.1 i) (g.1 i)) ∙ turn n m b s f.0 g.0 h e ∙ (λ i. slipped slip (pair p n (took m (sym f.1 i)) (took m (sym g.1 i)))) in
+        (λ i. pair p (suc n) (f.1 i) (g.1 i)) ∙ turn n m b s f.0 g.0 h e ∙ (λ i. slipped slip (pair p n (first_taken m (sym f.1 i)) (first_taken m (sym g.1 i)))) in
         let less = enough n (length bs + length ss) bs ss (omega (arith, took_most m c.book.buys, took_most m c.book.sells)) (omega arith) in
         more ∙ one ∙ ap (slipped slip) less
 
-    pub took_fewer : (m : ℕ) → m ≡ min b.volume s.volume → length (took m c.book.buys) + length (took m c.book.sells) < order_count c
+    pub took_fewer : (m : ℕ) → m ≡ min b.volume s.volume → length (first_taken m c.book.buys) + length (first_taken m c.book.sells) < order_count c
     took_fewer m e =
-        omega (arith, took_pair m b s f.0 g.0 e, ap (λ z. length (took m z)) f.1, ap (λ z. length (took m z)) g.1, ap length f.1, ap length g.1)
+        omega (arith, took_pair m b s f.0 g.0 e, ap (λ z. length (first_taken m z)) f.1, ap (λ z. length (first_taken m z)) g.1, ap length f.1, ap length g.1)
 
 -- the two takes of a turn
 module _ (c : Contents) (sound : Sound c) (m : ℕ) (b s : Order) (hb : slice_get c.book.buys 0 ≡ Some b) (hs : slice_get c.book.sells 0 ≡ Some s) where
@@ -122,15 +122,15 @@ module _ (c : Contents) (sound : Sound c) (m : ℕ) (b s : Order) (hb : slice_ge
   pub buy_first : slice_get (listed b.direction c) 0 ≡ Some b
   buy_first = subst (λ d. slice_get (listed d c) 0 ≡ Some b) (sym buy_side) hb
 
-  module _ (after : Contents) (e : after ≡ took_on b.direction m c) where
-    bought : after ≡ took_on Buy m c
-    bought = e ∙ ap (λ d. took_on d m c) buy_side
+  module _ (after : Contents) (e : after ≡ first_taken_on b.direction m c) where
+    bought : after ≡ first_taken_on Buy m c
+    bought = e ∙ ap (λ d. first_taken_on d m c) buy_side
 
     pub sell_first : slice_get (listed s.direction after) 0 ≡ Some s
     sell_first = subst (λ d. slice_get (listed d after) 0 ≡ Some s) (sym sell_side) (ap (λ t. slice_get (listed Sell t) 0) bought ∙ hs)
 
-    pub both_taken : (last : Contents) → last ≡ took_on s.direction m after → last ≡ took_on Sell m (took_on Buy m c)
-    both_taken last k = k ∙ ap (λ d. took_on d m after) sell_side ∙ ap (took_on Sell m) bought
+    pub both_taken : (last : Contents) → last ≡ first_taken_on s.direction m after → last ≡ first_taken_on Sell m (first_taken_on Buy m c)
+    both_taken last k = k ∙ ap (λ d. first_taken_on d m after) sell_side ∙ ap (first_taken_on Sell m) bought
 
 pub record Ended (all : Pairing) (old t : Contents) (run0 now' : List Slip) (v k : ℕ) : Type 0 where
   pub traded : v ≡ turnover all.slips

@@ -10,7 +10,7 @@ use Rattle.tables.specs.Listing.{with_volume}
 use Rattle.tables.specs.Meaning.{Contents, listed}
 use Rattle.book.specs.declared.slip.Slip.{Slip}
 use Rattle.book.specs.Calls.{Sweep, sweep, slip_then as slipped, trade}
-use Rattle.market.specs.Fills.{took, with_listed}
+use Rattle.market.specs.Fills.{first_taken, with_listed}
 use Rattle.market.proofs.Taking.{first_list}
 
 pub with_same : (d : Direction) (c : Contents) → with_listed d (listed d c) c ≡ c
@@ -56,17 +56,17 @@ module _ (d : Direction) (n p : ℕ) where
   part o os v h k = cond-false _ _ _ h ∙ cond-false _ _ _ (lt-leb o.volume v k)
 
   turn : (o : Order) (os : List Order) (v m : ℕ) → Stop o v ≡ false → m ≡ min v o.volume →
-      sweep d n p (o ∷ os) v ≡ slipped (trade d n o.number o.price m) (sweep d n p (took m (o ∷ os)) (v - m))
+      sweep d n p (o ∷ os) v ≡ slipped (trade d n o.number o.price m) (sweep d n p (first_taken m (o ∷ os)) (v - m))
   turn o os v m h e = ⊎_elim some whole (cases_lt v o.volume)
     where
       Turn : Type 0
-      Turn = sweep d n p (o ∷ os) v ≡ slipped (trade d n o.number o.price m) (sweep d n p (took m (o ∷ os)) (v - m))
+      Turn = sweep d n p (o ∷ os) v ≡ slipped (trade d n o.number o.price m) (sweep d n p (first_taken m (o ∷ os)) (v - m))
 
       whole : o.volume ≤ v → Turn
       whole k =
           let x = all o os v h k in
           let is : m ≡ o.volume = omega arith in
-          let y : took m (o ∷ os) ≡ os = cond-true _ _ _ (le-leb o.volume m (omega arith)) in
+          let y : first_taken m (o ∷ os) ≡ os = cond-true _ _ _ (le-leb o.volume m (omega arith)) in
           cc
 
       some : v < o.volume → Turn
@@ -74,7 +74,7 @@ module _ (d : Direction) (n p : ℕ) where
           let x = part o os v h k in
           let is : m ≡ v = omega arith in
           let z : v - m ≡ 0 = omega arith in
-          let y : took m (o ∷ os) ≡ with_volume (o.volume - m) o ∷ os = cond-false _ _ _ (lt-leb o.volume m (omega arith)) in
+          let y : first_taken m (o ∷ os) ≡ with_volume (o.volume - m) o ∷ os = cond-false _ _ _ (lt-leb o.volume m (omega arith)) in
           let u = stop (with_volume (o.volume - m) o) os 0 refl in
           cc
 
@@ -88,27 +88,27 @@ module _ (d : Direction) (n p : ℕ) where
       ap (λ ys. sweep d n p ys v) f.1 ∙ stop o f.0 v t ∙ ap (λ ys. still ys v) (sym f.1)
 
   pub sweep_turn : (xs : List Order) (o : Order) (v m : ℕ) → slice_get xs 0 ≡ Some o → Stop o v ≡ false → m ≡ min v o.volume →
-      sweep d n p xs v ≡ slipped (trade d n o.number o.price m) (sweep d n p (took m xs) (v - m))
+      sweep d n p xs v ≡ slipped (trade d n o.number o.price m) (sweep d n p (first_taken m xs) (v - m))
   sweep_turn xs o v m h goes e =
       let f = first_list xs o h in
       ap (λ ys. sweep d n p ys v) f.1 ∙ turn o f.0 v m goes e
-      ∙ ap (λ ys. slipped (trade d n o.number o.price m) (sweep d n p (took m ys) (v - m))) (sym f.1)
+      ∙ ap (λ ys. slipped (trade d n o.number o.price m) (sweep d n p (first_taken m ys) (v - m))) (sym f.1)
 
 pub first_length : (xs : List Order) (o : Order) → slice_get xs 0 ≡ Some o → 0 < length xs
 first_length xs o h = let f = first_list xs o h in omega (arith, ap length f.1)
 
 -- what is left to come is one less, if the entering order goes on
-pub took_length : (xs : List Order) (o : Order) (v m : ℕ) → slice_get xs 0 ≡ Some o → m ≡ min v o.volume → 0 < v - m → length (took m xs) + 1 ≡ length xs
+pub took_length : (xs : List Order) (o : Order) (v m : ℕ) → slice_get xs 0 ≡ Some o → m ≡ min v o.volume → 0 < v - m → length (first_taken m xs) + 1 ≡ length xs
 took_length xs o v m h e p =
     let f = first_list xs o h in
-    let b : took m (o ∷ f.0) ≡ f.0 = cond-true _ _ _ (le-leb o.volume m (omega arith)) in
-    omega (arith, ap (λ ys. length (took m ys)) f.1, ap length b, ap length f.1)
+    let b : first_taken m (o ∷ f.0) ≡ f.0 = cond-true _ _ _ (le-leb o.volume m (omega arith)) in
+    omega (arith, ap (λ ys. length (first_taken m ys)) f.1, ap length b, ap length f.1)
 
-pub took_most : (m : ℕ) (xs : List Order) → length (took m xs) ≤ length xs
+pub took_most : (m : ℕ) (xs : List Order) → length (first_taken m xs) ≤ length xs
 took_most m [] = omega arith
 took_most m (o ∷ os) = cond_both (leb o.volume m) os (with_volume (o.volume - m) o ∷ os) (λ ys. length ys ≤ length (o ∷ os)) (λ _. omega arith) (λ _. omega arith)
 
-pub took_smaller : (xs : List Order) (o : Order) (v m : ℕ) → slice_get xs 0 ≡ Some o → m ≡ min v o.volume → (v ≡ 0 → ⊥) → length (took m xs) + min 1 (v - m) < length xs + min 1 v
+pub took_smaller : (xs : List Order) (o : Order) (v m : ℕ) → slice_get xs 0 ≡ Some o → m ≡ min v o.volume → (v ≡ 0 → ⊥) → length (first_taken m xs) + min 1 (v - m) < length xs + min 1 v
 took_smaller xs o v m h e p =
     ⊎_elim
     (λ k. omega (arith, took_length xs o v m h e k))

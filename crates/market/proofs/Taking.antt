@@ -13,7 +13,7 @@ use Rattle.tables.specs.Stored.{Stands}
 use Rattle.tables.proofs.Keeps.{held_on, removed_at, volume_set_at}
 use Rattle.tables.proofs.InOrder.{side_apart}
 use Rattle.tables.proofs.Numbers.{without_at, set_volume_at}
-use Rattle.market.specs.Fills.{took, took_on, with_listed}
+use Rattle.market.specs.Fills.{first_taken, first_taken_on, with_listed}
 
 -- a read that finds
 pub get_below : (xs : List Order) (i : ℕ) (o : Order) → slice_get xs i ≡ Some o → i < length xs
@@ -83,17 +83,17 @@ module _ (c : Contents) (s : Sound c) (d : Direction) (o : Order) (h : slice_get
   one : times o.number (o ∷ f.0) ≤ 1
   one = subst (λ xs. times o.number xs ≤ 1) f.1 (few c s d 0 o h)
 
-  pub took_all : (v : ℕ) → v ≡ o.volume → removed o.number c ≡ took_on d v c
+  pub took_all : (v : ℕ) → v ≡ o.volume → removed o.number c ≡ first_taken_on d v c
   took_all v e =
       let a : without o.number (o ∷ f.0) ≡ f.0 = sym (without_at o.number (o ∷ f.0) 0 firsts one) in
-      let b : took v (o ∷ f.0) ≡ f.0 = cond-true _ _ _ (le-leb o.volume v (omega arith)) in
+      let b : first_taken v (o ∷ f.0) ≡ f.0 = cond-true _ _ _ (le-leb o.volume v (omega arith)) in
       removed_listed c s d 0 o h
-      ∙ ap (λ xs. with_listed d xs c) (ap (without o.number) f.1 ∙ a ∙ sym b ∙ ap (took v) (sym f.1))
+      ∙ ap (λ xs. with_listed d xs c) (ap (without o.number) f.1 ∙ a ∙ sym b ∙ ap (first_taken v) (sym f.1))
 
-  pub took_part : (v : ℕ) → v < o.volume → volume_set o.number (o.volume - v) c ≡ took_on d v c
+  pub took_part : (v : ℕ) → v < o.volume → volume_set o.number (o.volume - v) c ≡ first_taken_on d v c
   took_part v e =
       let w = o.volume - v in
       let a : set_volume o.number w (o ∷ f.0) ≡ with_volume w o ∷ f.0 = sym (set_volume_at o.number w (o ∷ f.0) 0 o firsts one) in
-      let b : took v (o ∷ f.0) ≡ with_volume w o ∷ f.0 = cond-false _ _ _ (lt-leb _ _ e) in
+      let b : first_taken v (o ∷ f.0) ≡ with_volume w o ∷ f.0 = cond-false _ _ _ (lt-leb _ _ e) in
       set_listed c s d 0 o h w (λ z. omega arith)
-      ∙ ap (λ xs. with_listed d xs c) (ap (set_volume o.number w) f.1 ∙ a ∙ sym b ∙ ap (took v) (sym f.1))
+      ∙ ap (λ xs. with_listed d xs c) (ap (set_volume o.number w) f.1 ∙ a ∙ sym b ∙ ap (first_taken v) (sym f.1))

@@ -7,16 +7,16 @@ use Rattle.book.specs.Calls.{Execution, with_first_less}
 use Rattle.market.specs.declared.entries.Fill.{Fill}
 
 -- the orders after the first has traded v
-abbrev pub took : ℕ → List Order → List Order
-took v [] = []
-took v (o ∷ os) = with_first_less v o os
+abbrev pub first_taken : ℕ → List Order → List Order
+first_taken v [] = []
+first_taken v (o ∷ os) = with_first_less v o os
 
 -- the contents with another list for one side
 abbrev pub with_listed : Direction → List Order → Contents → Contents
 with_listed d os c = holding c (with_side d os c.book)
 
-abbrev pub took_on : Direction → ℕ → Contents → Contents
-took_on d v c = with_listed d (took v (listed d c)) c
+abbrev pub first_taken_on : Direction → ℕ → Contents → Contents
+first_taken_on d v c = with_listed d (first_taken v (listed d c)) c
 
 -- the volumes of an order that entered, and the count of its slips
 abbrev pub fill_of : Execution → Fill

@@ -26,9 +26,9 @@ abbrev pub written_into : List Slip → List Slip → List Slip
 written_into run slips = slips ++ drop (length slips) run
 
 -- the answer or the refusal's number
-abbrev pub answered : Outcome → Result (Answer Told) ℕ
-answered (refused_by n) = Err n
-answered (done day a slips) = Ok a
+abbrev pub answer_of : Outcome → Result (Answer Told) ℕ
+answer_of (refused_by n) = Err n
+answer_of (done day a slips) = Ok a
 
 -- a refusal leaves the run as it was
 abbrev pub run_after : List Slip → Outcome → List Slip

@@ -3,7 +3,7 @@ ghost use Rattle.std.specs.Prelude.{◌≡◌, length};
 ghost use Rattle.book.specs.declared.call.Call.TheVariants.{Advance};
 ghost use Rattle.book.specs.Calls.{step};
 ghost use Rattle.book.specs.Model.{day_after};
-ghost use Rattle.market.specs.Outcome.{told_as, answered, run_after};
+ghost use Rattle.market.specs.Outcome.{told_as, answer_of, run_after};
 
 use crate::day::{Day, follow};
 use crate::strikes::{Struck, strike};
@@ -18,7 +18,7 @@ impl<T: Table> Day<T> {
     // Moves to the next stage; leaving Pre-open or Pre-close strikes a fixing.
     pub fn advance(&mut self, terms: &Terms, run: &mut [Slip]) -> Result<Answer<Advanced>, Refusal>
         ensures answer { told_as Told.Advanced result
-            ≡ answered (step terms.now self.old Advance (length run.old)) }
+            ≡ answer_of (step terms.now self.old Advance (length run.old)) }
         ensures day { self.new
             ≡ day_after self.old (step terms.now self.old Advance (length run.old)) }
         ensures run { run.new

@@ -11,7 +11,7 @@ ghost use Rattle.book.specs.Calls.{entry_of, entry_again, alter as altering, ste
 ghost use Rattle.book.specs.Model.{day_after};
 ghost use Rattle.book.specs.declared.slip.Slip.{Slip};
 ghost use Rattle.market.specs.Fills.{fill_of};
-ghost use Rattle.market.specs.Outcome.{told_as, answered, run_after, written_into};
+ghost use Rattle.market.specs.Outcome.{told_as, answer_of, run_after, written_into};
 
 use crate::day::Day;
 use crate::entries::{Fill, let_in};
@@ -118,7 +118,7 @@ impl<T: Table> Day<T> {
         run: &mut [Slip],
     ) -> Result<Answer<Altered>, Refusal>
         ensures answer { told_as Told.Altered result
-            ≡ answered (step terms.now self.old (Alter wanted) (length run.old)) }
+            ≡ answer_of (step terms.now self.old (Alter wanted) (length run.old)) }
         ensures day { self.new
             ≡ day_after self.old (step terms.now self.old (Alter wanted) (length run.old)) }
         ensures run { run.new
@@ -139,7 +139,7 @@ impl<T: Table> Day<T> {
     // Needs no terms, and writes no slip.
     pub fn withdraw(&mut self, named: Withdrawal) -> Result<Answer<Withdrawn>, Refusal>
         ensures answer { (terms : Terms) (room : ℕ) →
-            told_as Told.Withdrawn result ≡ answered (step terms self.old (Withdraw named) room) }
+            told_as Told.Withdrawn result ≡ answer_of (step terms self.old (Withdraw named) room) }
         ensures day { (terms : Terms) (room : ℕ) →
             self.new ≡ day_after self.old (step terms self.old (Withdraw named) room) }
     {

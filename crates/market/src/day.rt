@@ -1,6 +1,6 @@
 // The day of a session, which means the rules' day.
 ghost use Rattle.std.specs.Prelude.{◌≡◌};
-ghost use Rattle.book.specs.Day.{new_day as new_day};
+ghost use Rattle.book.specs.Day.{new_day};
 ghost use Rattle.market.specs.Outcome.{stage_after};
 
 use book::call::Call;

@@ -6,7 +6,7 @@ ghost use Rattle.book.specs.declared.call.Call.TheVariants.{Enter};
 ghost use Rattle.book.specs.Calls.{limit_price as price_for, order_of as order_made, lapse_left, held_left as held_of, stand_left, entry_trading, entry_of, step};
 ghost use Rattle.book.specs.Model.{day_after};
 ghost use Rattle.market.specs.Fills.{fill_of};
-ghost use Rattle.market.specs.Outcome.{told_as, answered, run_after, written_into};
+ghost use Rattle.market.specs.Outcome.{told_as, answer_of, run_after, written_into};
 
 use crate::day::Day;
 use crate::fills::sweep;
@@ -161,7 +161,7 @@ impl<T: Table> Day<T> {
         run: &mut [Slip],
     ) -> Result<Answer<Entered>, Refusal>
         ensures answer { told_as Told.Entered result
-            ≡ answered (step terms.now self.old (Enter new) (length run.old)) }
+            ≡ answer_of (step terms.now self.old (Enter new) (length run.old)) }
         ensures day { self.new
             ≡ day_after self.old (step terms.now self.old (Enter new) (length run.old)) }
         ensures run { run.new

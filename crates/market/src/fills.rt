@@ -4,7 +4,7 @@ ghost use Rattle.std.specs.List.{slice_get};
 ghost use Rattle.rules.specs.Side.{opposite};
 ghost use Rattle.tables.specs.Meaning.{listed};
 ghost use Rattle.book.specs.Calls.{trade as trade_of, sweep_of, with_rest};
-ghost use Rattle.market.specs.Fills.{took_on};
+ghost use Rattle.market.specs.Fills.{first_taken_on};
 ghost use Rattle.market.specs.Outcome.{written_into};
 
 use book::slip::Slip;
@@ -29,7 +29,7 @@ pub fn take<T: Table>(table: &mut T, first: &Order, volume: u32)
         ≡ Some first.now }
     requires within { volume ≤ first.now.volume }
     ensures { T.Table.contents table.new
-        ≡ took_on first.now.direction volume (T.Table.contents table.old) }
+        ≡ first_taken_on first.now.direction volume (T.Table.contents table.old) }
 {
     if volume == first.volume {
         let Ok(()) = table.remove(first.number) else {

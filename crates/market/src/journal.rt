@@ -1,7 +1,7 @@
 // A whole list of calls, worked from a new session on, and the journal of what came of each.
 ghost use Rattle.std.specs.Prelude.{◌≡◌, IfOk, IsOk, length};
 ghost use Rattle.market.specs.Outcome.{by_number, written_into};
-ghost use Rattle.market.specs.Works.{counted};
+ghost use Rattle.market.specs.Works.{slips_counted};
 ghost use Rattle.market.specs.Journaled.{Journaled, Follows, run_through};
 
 use crate::session::Session;
@@ -24,7 +24,7 @@ pub struct Entry {
 
 // The slips that an answer counts; a refusal counts none.
 fn written(answer: &Result<Answer<Told>, Refusal>) -> usize
-    ensures { result ≡ counted (by_number answer.now) }
+    ensures { result ≡ slips_counted (by_number answer.now) }
 {
     match answer {
         Ok(accepted) => accepted.slips,

@@ -3,7 +3,7 @@ ghost use Rattle.std.specs.Prelude.{◌≡◌, length};
 ghost use Rattle.book.specs.Marks.{reference_left};
 ghost use Rattle.book.specs.declared.call.Call.TheVariants.{Enter, Alter, Withdraw, Advance};
 ghost use Rattle.market.specs.Outcome.{by_number, told_as};
-ghost use Rattle.market.specs.Works.{opened, followed, came_to, works, Lawfully, EndsAs};
+ghost use Rattle.market.specs.Works.{session_start, followed, came_to, by_the_rules, Lawfully, EndsAs};
 
 use crate::day::Day;
 use crate::marks::marks_after;
@@ -37,7 +37,7 @@ impl<T: Table> Model for Session<T> {
 impl<T: Table> Session<T> {
     // A session owns its table, and clears it.
     pub fn start(terms: Terms, table: T) -> Session<T>
-        ensures { result ≡ opened terms (T.Table.contents table).capacity }
+        ensures { result ≡ session_start terms (T.Table.contents table).capacity }
     {
         Session {
             terms,
@@ -74,7 +74,7 @@ impl<T: Table> Session<T> {
 
     pub fn enter(&mut self, new: NewOrder, run: &mut [Slip]) -> Result<Answer<Entered>, Refusal>
         ensures outcome { came_to (told_as Told.Entered result) self.new run.new
-            ≡ works self.old (Enter new) run.old }
+            ≡ by_the_rules self.old (Enter new) run.old }
         ensures lawful { Lawfully self.old (Enter new) (length run.old)
             (came_to (told_as Told.Entered result) self.new run.new) }
     {
@@ -90,7 +90,7 @@ impl<T: Table> Session<T> {
         run: &mut [Slip],
     ) -> Result<Answer<Altered>, Refusal>
         ensures outcome { came_to (told_as Told.Altered result) self.new run.new
-            ≡ works self.old (Alter wanted) run.old }
+            ≡ by_the_rules self.old (Alter wanted) run.old }
         ensures lawful { Lawfully self.old (Alter wanted) (length run.old)
             (came_to (told_as Told.Altered result) self.new run.new) }
     {
@@ -106,7 +106,7 @@ impl<T: Table> Session<T> {
         run: &mut [Slip],
     ) -> Result<Answer<Withdrawn>, Refusal>
         ensures outcome { came_to (told_as Told.Withdrawn result) self.new run.new
-            ≡ works self.old (Withdraw named) run.old }
+            ≡ by_the_rules self.old (Withdraw named) run.old }
         ensures lawful { Lawfully self.old (Withdraw named) (length run.old)
             (came_to (told_as Told.Withdrawn result) self.new run.new) }
     {
@@ -118,7 +118,7 @@ impl<T: Table> Session<T> {
 
     pub fn advance(&mut self, run: &mut [Slip]) -> Result<Answer<Advanced>, Refusal>
         ensures outcome { came_to (told_as Told.Advanced result) self.new run.new
-            ≡ works self.old Advance run.old }
+            ≡ by_the_rules self.old Advance run.old }
         ensures lawful { Lawfully self.old Advance (length run.old)
             (came_to (told_as Told.Advanced result) self.new run.new) }
     {
@@ -130,7 +130,7 @@ impl<T: Table> Session<T> {
 
     // Works any call, over a run of any length.
     pub fn work(&mut self, call: Call, run: &mut [Slip]) -> Result<Answer<Told>, Refusal>
-        ensures outcome { came_to (by_number result) self.new run.new ≡ works self.old call run.old }
+        ensures outcome { came_to (by_number result) self.new run.new ≡ by_the_rules self.old call run.old }
         ensures lawful { Lawfully self.old call (length run.old)
             (came_to (by_number result) self.new run.new) }
     {

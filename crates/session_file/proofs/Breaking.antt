@@ -12,8 +12,8 @@ use Rattle.session_file.specs.Grammar.{Number, Line}
 use Rattle.session_file.specs.Reading.{number_of, call_of}
 use Rattle.session_file.specs.Lines.{Ahead, broken, cut_line, first_line, or_broken, ◌>>=◌, number_line, call_line, terms_section, ending}
 use Rattle.session_file.specs.Files.{Stacked}
-use Rattle.session_file.specs.Answered.{told, outcome_of, session_after, reading, calls, under, opened, answered}
-use Rattle.session_file.specs.Gathered.{said}
+use Rattle.session_file.specs.Answered.{verdict_text, outcome_over, session_after_call, reading, calls_text, under, calls_section_text, file_text}
+use Rattle.session_file.specs.Gathered.{text_in_turn}
 use Rattle.session_file.specs.Opening.{terms_from}
 use Rattle.session_file.specs.Broken.{Without, NoNumber, BrokenTerms, BrokenNext, CallsThen, fault_text, BrokenInTurn}
 use Rattle.session_file.proofs.Begun.{numbers_read, calls_read}
@@ -98,13 +98,13 @@ nothing_left a some = go a.text some
     go (b ∷ bs) some = let long : (length (b ∷ bs) == 0) ≡ false = ne_eqb _ _ (λ z. omega (arith, z)) in rw long refl
 
 module _ (t : Terms) (room : ℕ) where
-  at_once : (n : ℕ) (s : Session) (a : Ahead) → BrokenNext n a.text → calls t room n s a ≡ fault_text a.line
+  at_once : (n : ℕ) (s : Session) (a : Ahead) → BrokenNext n a.text → calls_text t room n s a ≡ fault_text a.line
   at_once zero s a h = let e = nothing_left a h in rw e refl
   at_once (suc n) s a h = let e = call_fault a h in rw e refl
 
   calls_broken :
       (cs : List Call) (n : ℕ) (s : Session) (a : Ahead) → length cs ≤ n → CallsThen cs (BrokenNext (n - length cs)) a.text →
-      calls t room n s a ≡ said t room s cs ++ fault_text (length cs + a.line)
+      calls_text t room n s a ≡ text_in_turn t room s cs ++ fault_text (length cs + a.line)
   unfolding behind
   calls_broken [] n s a few h =
       let all : n - 0 ≡ n = omega arith in
@@ -116,32 +116,32 @@ module _ (t : Terms) (room : ℕ) where
       let h = subst (λ k. CallsThen (c ∷ cs) (BrokenNext k) a.text) fewer broken_at in
       let got : call_line a ≡ Ok (c, behind a h.rest) =
       line_read call_of c a h.line h.rest h.whole (line_free c h.line h.first) (call_taken c h.line h.first) in
-      let next : Session = session_after t room s c in
-      let mine : List ℕ = told (result (outcome_of t room s c)) in
+      let next : Session = session_after_call t room s c in
+      let mine : List ℕ = verdict_text (result (outcome_over t room s c)) in
       let counted : length cs + (a.line + 1) ≡ suc (length cs) + a.line = omega arith in
       rw got (
       ap (λ (l : List ℕ). mine ++ l) (calls_broken cs n next (behind a h.rest) (omega (arith, few)) h.next)
-      ∙ sym (append_assoc mine (said t room next cs) (fault_text (length cs + (a.line + 1))))
-      ∙ ap (λ k. (mine ++ said t room next cs) ++ fault_text k) counted
+      ∙ sym (append_assoc mine (text_in_turn t room next cs) (fault_text (length cs + (a.line + 1))))
+      ∙ ap (λ k. (mine ++ text_in_turn t room next cs) ++ fault_text k) counted
       )
 
 -- The whole file ------------------------------------------------------------------------------------------------------------
 
 module _ (cap : Capacity) (room : ℕ) where
-  count_broken : (r : Result Terms ℕ) (a : Ahead) → NoNumber a.text → opened cap room r a ≡ under r (λ _. fault_text a.line)
+  count_broken : (r : Result Terms ℕ) (a : Ahead) → NoNumber a.text → calls_section_text cap room r a ≡ under r (λ _. fault_text a.line)
   count_broken (Err n) a h = refl
   count_broken (Ok t) a h = let e = number_fault a h in rw e refl
 
   opened_broken :
       (r : Result Terms ℕ) (n : ℕ) (cs : List Call) (a : Ahead) → length cs ≤ n → Stacked (Number n) (CallsThen cs (BrokenNext (n - length cs))) a.text →
-      opened cap room r a ≡ under r (λ t. said t room (new_session cap) cs ++ fault_text (length cs + (a.line + 1)))
+      calls_section_text cap room r a ≡ under r (λ t. text_in_turn t room (new_session cap) cs ++ fault_text (length cs + (a.line + 1)))
   unfolding behind
   opened_broken (Err m) n cs a few h = refl
   opened_broken (Ok t) n cs a few h =
       let count = number_read n (CallsThen cs (BrokenNext (n - length cs))) a h in
       rw count (calls_broken t room cs n (new_session cap) (behind a h.rest) few h.next)
 
-  pub file_broken : (file : List ℕ) → BrokenInTurn cap room file (answered cap room file)
+  pub file_broken : (file : List ℕ) → BrokenInTurn cap room file (file_text cap room file)
   unfolding behind
   file_broken file =
       let start : Ahead = record { line = 1; text = file } in
@@ -163,7 +163,7 @@ module _ (cap : Capacity) (room : ℕ) where
             rw e (rw section (opened_broken (terms_from r b) n cs (behind (behind (behind start h.rest) h.next.rest) h.next.next.rest) few h.next.next.next));
       }
     where
-      terms_broken : (k : ℕ) → BrokenTerms k file → reading (terms_section (record { line = 1; text = file })) (λ s. opened cap room (terms_from s.0.reference s.0.block) s.1) ≡ fault_text (k + 1)
+      terms_broken : (k : ℕ) → BrokenTerms k file → reading (terms_section (record { line = 1; text = file })) (λ s. calls_section_text cap room (terms_from s.0.reference s.0.block) s.1) ≡ fault_text (k + 1)
       terms_broken zero h = let e = count_fault (record { line = 1; text = file }) h in rw e refl
       terms_broken (suc zero) h = let e = reference_fault (record { line = 1; text = file }) h in rw e refl
       terms_broken (suc (suc zero)) h = let e = block_fault (record { line = 1; text = file }) h.0 h.1 in rw e refl

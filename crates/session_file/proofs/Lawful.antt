@@ -19,9 +19,9 @@ use Rattle.book.proofs.Endings.{ends_by_journal}
 use Rattle.book.proofs.Journals.{law_of_journals}
 use Rattle.book.proofs.Laws.{law}
 use Rattle.market.specs.Journaled.{tries, lines}
-use Rattle.session_file.specs.Answered.{ended, told, outcome_of, answered}
+use Rattle.session_file.specs.Answered.{line_text, verdict_text, outcome_over, file_text}
 use Rattle.session_file.specs.Files.{text_of}
-use Rattle.session_file.specs.Gathered.{said, after_all}
+use Rattle.session_file.specs.Gathered.{text_in_turn, session_in_turn}
 use Rattle.session_file.specs.Lawful.{journal_text, AnsweredLawfully}
 use Rattle.session_file.specs.Opening.{terms_from}
 use Rattle.session_file.specs.Output.{reference_line}
@@ -57,20 +57,20 @@ module _ (t : Terms) (cap : Capacity) where
         ap (λ ts. ts ++ past) (reverse-append (trying c ∷ []) (map trying cs))
         ∙ append_assoc (tries cs room) (trying c ∷ []) past
 
-    told_one : (past : List Try) (c : Call) → told (result (outcome t (day_after_tries step t cap past) (trying c))) ≡ told (result (outcome_of t room (session_at past) c))
-    told_one past c = ap (λ (d : Day). told (result (step t d c room))) (sym (day_at past))
+    told_one : (past : List Try) (c : Call) → verdict_text (result (outcome t (day_after_tries step t cap past) (trying c))) ≡ verdict_text (result (outcome_over t room (session_at past) c))
+    told_one past c = ap (λ (d : Day). verdict_text (result (step t d c room))) (sym (day_at past))
 
     -- what is said of more calls stands behind the text of the journal
-    text_more : (cs : List Call) (past : List Try) → journal_text (journal model t cap (back cs past)) ≡ journal_text (journal model t cap past) ++ said t room (session_at past) cs
+    text_more : (cs : List Call) (past : List Try) → journal_text (journal model t cap (back cs past)) ≡ journal_text (journal model t cap past) ++ text_in_turn t room (session_at past) cs
     unfolding back session_at
     text_more [] past = sym (append-nil (journal_text (journal model t cap past)))
     text_more (c ∷ cs) past =
         ap (λ ts. journal_text (journal model t cap ts)) (back_one c cs past)
         ∙ text_more cs (trying c ∷ past)
-        ∙ ap (λ text. (journal_text (journal model t cap past) ++ text) ++ said t room (session_at (trying c ∷ past)) cs) (told_one past c)
-        ∙ append_assoc (journal_text (journal model t cap past)) (told (result (outcome_of t room (session_at past) c))) (said t room (session_at (trying c ∷ past)) cs)
+        ∙ ap (λ text. (journal_text (journal model t cap past) ++ text) ++ text_in_turn t room (session_at (trying c ∷ past)) cs) (told_one past c)
+        ∙ append_assoc (journal_text (journal model t cap past)) (verdict_text (result (outcome_over t room (session_at past) c))) (text_in_turn t room (session_at (trying c ∷ past)) cs)
 
-    session_more : (cs : List Call) (past : List Try) → session_at (back cs past) ≡ after_all t room (session_at past) cs
+    session_more : (cs : List Call) (past : List Try) → session_at (back cs past) ≡ session_in_turn t room (session_at past) cs
     unfolding back session_at
     session_more [] past = refl
     session_more (c ∷ cs) past = ap session_at (back_one c cs past) ∙ session_more cs (trying c ∷ past)
@@ -82,11 +82,11 @@ module _ (t : Terms) (cap : Capacity) where
     unfolding back
     all_back cs = append-nil (tries cs room)
 
-    text_is : (cs : List Call) → journal_text (written cs) ≡ said t room (new_session cap) cs
+    text_is : (cs : List Call) → journal_text (written cs) ≡ text_in_turn t room (new_session cap) cs
     unfolding session_at
     text_is cs = ap (λ ts. journal_text (journal model t cap ts)) (sym (all_back cs)) ∙ text_more cs []
 
-    reference_is : (cs : List Call) → reference_left t (after_all t room (new_session cap) cs) ≡ reference_by t (written cs)
+    reference_is : (cs : List Call) → reference_left t (session_in_turn t room (new_session cap) cs) ≡ reference_by t (written cs)
     unfolding session_at
     reference_is cs =
         ap (reference_left t) (sym (session_more cs []) ∙ ap session_at (all_back cs))
@@ -99,10 +99,10 @@ own_terms t =
     let b : within 1 10000 t.block ≡ true = and_from _ _ (le-leb _ _ t.blocked.0) (le-leb _ _ t.blocked.1) in
     sym (terms_found t.reference t.block (Ok t) (rw (r, b) (λ i. terms.made t.reference t.block (t.floor i) (t.ceiling i))))
 
-pub file_lawful : (cap : Capacity) (room : ℕ) (file : List ℕ) → AnsweredLawfully cap room file (answered cap room file)
+pub file_lawful : (cap : Capacity) (room : ℕ) (file : List ℕ) → AnsweredLawfully cap room file (file_text cap room file)
 file_lawful cap room file t cs short says = (
   (law_of_journals model).0 law t cap (tries cs room),
   file_told cap room file t.reference t.block cs short says
       ∙ ap (λ r. text_of cap room r cs) (own_terms t)
-      ∙ (λ i. sym (text_is t cap room cs) i ++ ended (reference_line (reference_is t cap room cs i))),
+      ∙ (λ i. sym (text_is t cap room cs) i ++ line_text (reference_line (reference_is t cap room cs i))),
 )

@@ -15,9 +15,9 @@ use Rattle.session_file.specs.Cut.{is, cut}
 use Rattle.session_file.specs.Grammar.{Number, Side, Price, Spaced, Line}
 use Rattle.session_file.specs.Reading.{number_of, call_of}
 use Rattle.session_file.specs.Lines.{Ahead, first_line, or_broken, ◌>>=◌, number_line, call_line, terms_section}
-use Rattle.session_file.specs.Answered.{told, outcome_of, session_after, closing, calls, opened, answered}
+use Rattle.session_file.specs.Answered.{verdict_text, outcome_over, session_after_call, closing_text, calls_text, calls_section_text, file_text}
 use Rattle.session_file.specs.Files.{Stacked, CallLines, text_of, AnsweredInTurn}
-use Rattle.session_file.specs.Gathered.{said, after_all}
+use Rattle.session_file.specs.Gathered.{text_in_turn, session_in_turn}
 use Rattle.session_file.specs.Opening.{terms_from}
 use Rattle.session_file.proofs.Numbers.{Free, number_free, number_taken}
 use Rattle.session_file.proofs.Forms.{letter_free}
@@ -91,25 +91,25 @@ terms_read r b Next a s =
     rw one (rw two (rw three refl))
 
 module _ (t : Terms) (room : ℕ) where
-  calls_told : (cs : List Call) (s : Session) (a : Ahead) → CallLines cs a.text → calls t room (length cs) s a ≡ said t room s cs ++ closing t room (after_all t room s cs)
+  calls_told : (cs : List Call) (s : Session) (a : Ahead) → CallLines cs a.text → calls_text t room (length cs) s a ≡ text_in_turn t room s cs ++ closing_text t room (session_in_turn t room s cs)
   unfolding behind
   calls_told [] s a e = rw e refl
   calls_told (c ∷ cs) s a h =
       let got : call_line a ≡ Ok (c, behind a h.rest) =
       line_read call_of c a h.line h.rest h.whole (line_free c h.line h.first) (call_taken c h.line h.first) in
-      let next : Session = session_after t room s c in
-      let mine : List ℕ = told (result (outcome_of t room s c)) in
-      rw got (ap (λ (l : List ℕ). mine ++ l) (calls_told cs next (behind a h.rest) h.next) ∙ sym (append_assoc mine (said t room next cs) (closing t room (after_all t room next cs))))
+      let next : Session = session_after_call t room s c in
+      let mine : List ℕ = verdict_text (result (outcome_over t room s c)) in
+      rw got (ap (λ (l : List ℕ). mine ++ l) (calls_told cs next (behind a h.rest) h.next) ∙ sym (append_assoc mine (text_in_turn t room next cs) (closing_text t room (session_in_turn t room next cs))))
 
 module _ (cap : Capacity) (room : ℕ) where
-  opened_told : (r : Result Terms ℕ) (cs : List Call) (a : Ahead) → Stacked (Number (length cs)) (CallLines cs) a.text → opened cap room r a ≡ text_of cap room r cs
+  opened_told : (r : Result Terms ℕ) (cs : List Call) (a : Ahead) → Stacked (Number (length cs)) (CallLines cs) a.text → calls_section_text cap room r a ≡ text_of cap room r cs
   unfolding behind
   opened_told (Err n) cs a h = refl
   opened_told (Ok t) cs a h =
       let count = number_read (length cs) (CallLines cs) a h in
       rw count (calls_told t room cs (new_session cap) (behind a h.rest) h.next)
 
-  pub file_told : (file : List ℕ) → AnsweredInTurn cap room file (answered cap room file)
+  pub file_told : (file : List ℕ) → AnsweredInTurn cap room file (file_text cap room file)
   unfolding behind
   file_told file r b cs short s =
       let fits : leb (length file) 65536 ≡ true = le-leb _ _ short in

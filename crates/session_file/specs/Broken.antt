@@ -5,8 +5,8 @@ use Rattle.book.specs.declared.call.Call.{Call}
 use Rattle.book.specs.Marks.{new_session}
 use Rattle.session_file.specs.Grammar.{Number, Line}
 use Rattle.session_file.specs.Files.{◌above◌}
-use Rattle.session_file.specs.Answered.{ended, under}
-use Rattle.session_file.specs.Gathered.{said}
+use Rattle.session_file.specs.Answered.{line_text, under}
+use Rattle.session_file.specs.Gathered.{text_in_turn}
 use Rattle.session_file.specs.Opening.{terms_from}
 use Rattle.session_file.specs.Output.{fault_line}
 
@@ -44,7 +44,7 @@ BrokenCalls reference block n calls =
     Number 2 above Number reference above Number block above Number n above CallsThen calls (BrokenNext (n - length calls))
 
 abbrev pub fault_text : ℕ → List ℕ
-fault_text line = ended (fault_line line)
+fault_text line = line_text (fault_line line)
 
 -- a broken form is answered by its line, behind the answers to the calls before it; a file that is too long by line 0
 pub record BrokenInTurn (cap : Capacity) (room : ℕ) (file text : List ℕ) : Type 0 where
@@ -56,4 +56,4 @@ pub record BrokenInTurn (cap : Capacity) (room : ℕ) (file text : List ℕ) : T
   pub in_calls :
       (reference block n : ℕ) (calls : List Call) → length file ≤ 65536 → length calls ≤ n →
       BrokenCalls reference block n calls file →
-      text ≡ under (terms_from reference block) (λ t. said t room (new_session cap) calls ++ fault_text (length calls + 5))
+      text ≡ under (terms_from reference block) (λ t. text_in_turn t room (new_session cap) calls ++ fault_text (length calls + 5))

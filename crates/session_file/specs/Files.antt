@@ -6,8 +6,8 @@ use Rattle.tables.specs.Meaning.{Capacity}
 use Rattle.book.specs.declared.call.Call.{Call}
 use Rattle.book.specs.Marks.{new_session}
 use Rattle.session_file.specs.Grammar.{Number, Line}
-use Rattle.session_file.specs.Answered.{closing, under}
-use Rattle.session_file.specs.Gathered.{said, after_all}
+use Rattle.session_file.specs.Answered.{closing_text, under}
+use Rattle.session_file.specs.Gathered.{text_in_turn, session_in_turn}
 use Rattle.session_file.specs.Opening.{terms_from}
 
 -- a line, its byte 10, and what follows
@@ -34,7 +34,7 @@ File reference block calls =
 -- the text of these calls in turn
 abbrev pub text_of : Capacity → ℕ → Result Terms ℕ → List Call → List ℕ
 text_of cap room terms calls =
-    under terms (λ t. said t room (new_session cap) calls ++ closing t room (after_all t room (new_session cap) calls))
+    under terms (λ t. text_in_turn t room (new_session cap) calls ++ closing_text t room (session_in_turn t room (new_session cap) calls))
 
 -- a file that is not too long, and says terms and calls, is answered call after call
 abbrev pub AnsweredInTurn : Capacity → ℕ → List ℕ → List ℕ → Type 0

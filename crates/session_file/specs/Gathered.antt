@@ -9,7 +9,7 @@ use Rattle.market.specs.declared.journal.Entry.{Entry}
 use Rattle.session_file.specs.declared.answer.Stop.{Stop}
 use Rattle.session_file.specs.declared.answer.Stop.TheVariants.{Broken, Refused, OutOfMemory}
 use Rattle.session_file.specs.declared.fault.Fault.{Fault}
-use Rattle.session_file.specs.Answered.{told, outcome_of, session_after}
+use Rattle.session_file.specs.Answered.{verdict_text, outcome_over, session_after_call}
 use Rattle.session_file.specs.Lines.{Ahead, call_line, ending}
 
 -- the calls up to the end or to the first fault, and which of the two it was
@@ -22,9 +22,9 @@ onto (Err fault) next = record { calls = []; end = Err fault }
 onto (Ok c) next = let behind : Gathered = next c.1 in record { calls = c.0 ∷ behind.calls; end = behind.end }
 
 -- so many calls, and then nothing more
-abbrev pub gathered : ℕ → Ahead → Gathered
-gathered zero ahead = record { calls = []; end = ending ahead }
-gathered (suc n) ahead = onto (call_line ahead) (gathered n)
+abbrev pub calls_gathered : ℕ → Ahead → Gathered
+calls_gathered zero ahead = record { calls = []; end = ending ahead }
+calls_gathered (suc n) ahead = onto (call_line ahead) (calls_gathered n)
 
 -- the calls stand behind those before them, and the reader says how they end; of want of memory nothing is said
 abbrev pub Gathers : Result (Unit {0}) Stop → List Call → List Call → Gathered → Type 0
@@ -35,15 +35,15 @@ Gathers (Err OutOfMemory) before after g = Unit {0}
 
 -- the lines of a call that was worked
 abbrev pub entry_text : Entry → List ℕ
-entry_text e = told (verdict_of e.answer e.slips.items)
+entry_text e = verdict_text (verdict_of e.answer e.slips.items)
 
 module _ (t : Terms) (room : ℕ) where
   -- the lines of these calls in turn
-  abbrev pub said : Session → List Call → List ℕ
-  said s [] = []
-  said s (c ∷ cs) = told (result (outcome_of t room s c)) ++ said (session_after t room s c) cs
+  abbrev pub text_in_turn : Session → List Call → List ℕ
+  text_in_turn s [] = []
+  text_in_turn s (c ∷ cs) = verdict_text (result (outcome_over t room s c)) ++ text_in_turn (session_after_call t room s c) cs
 
   -- the session after them
-  abbrev pub after_all : Session → List Call → Session
-  after_all s [] = s
-  after_all s (c ∷ cs) = after_all (session_after t room s c) cs
+  abbrev pub session_in_turn : Session → List Call → Session
+  session_in_turn s [] = s
+  session_in_turn s (c ∷ cs) = session_in_turn (session_after_call t room s c) cs

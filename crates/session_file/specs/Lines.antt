@@ -58,9 +58,9 @@ ending ahead = if length ahead.text == 0 then Ok tt else Err (broken ahead.line)
 abbrev pub ahead : Lines → Ahead
 ahead lines = record { line = lines.line; text = lines.rest.now }
 
-abbrev pub opened : Result Lines Fault → Result Ahead Fault
-opened (Ok lines) = Ok (ahead lines)
-opened (Err e) = Err e
+abbrev pub ahead_of : Result Lines Fault → Result Ahead Fault
+ahead_of (Ok lines) = Ok (ahead lines)
+ahead_of (Err e) = Err e
 
 abbrev pub cut_off : Result (Bor (List ℕ) × Lines) Fault → Result (List ℕ × Ahead) Fault
 cut_off (Ok p) = Ok (p.0.now, ahead p.1)

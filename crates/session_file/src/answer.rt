@@ -2,10 +2,10 @@
 ghost use Rattle.std.specs.Prelude.{◌≡◌, ◌++◌, IfOk, length};
 ghost use Rattle.std.specs.String.{string_bytes};
 ghost use Rattle.book.specs.Marks.{new_session};
-ghost use Rattle.session_file.specs.Answered.{calls as calls_text, answered};
+ghost use Rattle.session_file.specs.Answered.{calls_text, file_text};
 ghost use Rattle.session_file.specs.Broken.{BrokenInTurn};
 ghost use Rattle.session_file.specs.Files.{AnsweredInTurn};
-ghost use Rattle.session_file.specs.Gathered.{Gathers, gathered};
+ghost use Rattle.session_file.specs.Gathered.{Gathers, calls_gathered};
 ghost use Rattle.session_file.specs.Lawful.{AnsweredLawfully};
 ghost use Rattle.session_file.specs.Lines.{ahead};
 ghost use Rattle.session_file.specs.Stops.{Comes};
@@ -65,7 +65,7 @@ impl From<AllocFailed<Call>> for Stop {
 
 // Reads so many calls, up to the first fault.
 fn read_calls(mut lines: Lines, count: u32, calls: &mut Vec<Call>) -> Result<(), Stop>
-    ensures { Gathers result calls.old.items calls.new.items (gathered count (ahead lines.entry)) }
+    ensures { Gathers result calls.old.items calls.new.items (calls_gathered count (ahead lines.entry)) }
 {
     for _ in 0..count {
         let (call, behind) = lines.next_call()?;
@@ -104,7 +104,7 @@ fn answer_sections<T: Table + Drop>(
     run: &mut [Slip],
     out: &mut String,
 ) -> Result<u32, Stop>
-    ensures { Comes result (string_bytes out.new) (string_bytes out.old ++ answered (T.Table.contents table).capacity (length run.old) file.now) }
+    ensures { Comes result (string_bytes out.new) (string_bytes out.old ++ file_text (T.Table.contents table).capacity (length run.old) file.now) }
 {
     let lines = Lines::new(file)?;
     let (section, lines) = lines.next_terms()?;
@@ -123,7 +123,7 @@ pub fn answer_file<T: Table + Drop>(
     ensures in_turn { IfOk result (λ text. AnsweredInTurn (T.Table.contents table).capacity (length run.items) file.now (string_bytes text)) }
     ensures lawful { IfOk result (λ text. AnsweredLawfully (T.Table.contents table).capacity (length run.items) file.now (string_bytes text)) }
     ensures broken { IfOk result (λ text. BrokenInTurn (T.Table.contents table).capacity (length run.items) file.now (string_bytes text)) }
-    ensures exact { IfOk result (λ text. string_bytes text ≡ answered (T.Table.contents table).capacity (length run.items) file.now) }
+    ensures exact { IfOk result (λ text. string_bytes text ≡ file_text (T.Table.contents table).capacity (length run.items) file.now) }
 {
     let mut out = String::new(heap);
     let last = match answer_sections(heap, file, table, &mut run, &mut out) {

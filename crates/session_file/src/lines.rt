@@ -26,10 +26,10 @@ pub struct TermsSection {
 }
 
 impl<'a> Lines<'a> {
-    ghost use Rattle.session_file.specs.Lines.{ahead, opened, cut_off, found, first_ahead, first_line, number_line, call_line, terms_section, ending};
+    ghost use Rattle.session_file.specs.Lines.{ahead, ahead_of, cut_off, found, first_ahead, first_line, number_line, call_line, terms_section, ending};
 
     pub fn new(file: &'a [u8]) -> Result<Lines<'a>, Fault>
-        ensures { opened result ≡ first_ahead file.now }
+        ensures { ahead_of result ≡ first_ahead file.now }
     {
         if file.len() > LONGEST {
             return Err(Fault::in_line(0));

@@ -4,7 +4,7 @@ ghost use Rattle.std.specs.List.{flat_map};
 ghost use Rattle.std.specs.String.{string_bytes};
 ghost use Rattle.session_file.specs.Output.{line as line_of};
 ghost use Rattle.market.specs.Journaled.{verdict_of};
-ghost use Rattle.session_file.specs.Answered.{ended, slip_text, told};
+ghost use Rattle.session_file.specs.Answered.{line_text, slip_text, verdict_text};
 ghost use Rattle.session_file.specs.Gathered.{entry_text};
 
 use crate::output::OutputLine;
@@ -15,7 +15,7 @@ use rules::refusal::Refusal;
 use std::alloc::AllocError;
 
 pub fn put_line(out: &mut String, line: OutputLine) -> Result<(), AllocError>
-    ensures { OnOk result (string_bytes out.new ≡ string_bytes out.old ++ ended (line_of line)) }
+    ensures { OnOk result (string_bytes out.new ≡ string_bytes out.old ++ line_text (line_of line)) }
 {
     writeln!(out, "{line}").map_err(|_| AllocError)
 }
@@ -35,7 +35,7 @@ pub fn put_call(
     answer: &Result<Answer<Told>, Refusal>,
     slips: &[Slip],
 ) -> Result<(), AllocError>
-    ensures { OnOk result (string_bytes out.new ≡ string_bytes out.old ++ told (verdict_of answer.now slips.now)) }
+    ensures { OnOk result (string_bytes out.new ≡ string_bytes out.old ++ verdict_text (verdict_of answer.now slips.now)) }
 {
     match answer {
         Ok(answer) => {

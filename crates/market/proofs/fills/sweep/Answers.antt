@@ -5,7 +5,7 @@ use Rattle.std.specs.List.{slice_get}
 use Rattle.rules.specs.Side.{opposite, willing}
 use Rattle.tables.specs.Meaning.{listed}
 use Rattle.book.specs.Calls.{Sweep, sweep, sweep_of}
-use Rattle.market.specs.Fills.{took, took_on, with_listed}
+use Rattle.market.specs.Fills.{first_taken, first_taken_on, with_listed}
 use Rattle.market.specs.Outcome.{written_into}
 use Rattle.market.proofs.Taking.{listed_side}
 use Rattle.market.proofs.Writing.{written_so_far, same_behind}
@@ -32,8 +32,8 @@ orders-smaller g c =
     let x = g.met.S.Side.across in
     let first : slice_get (listed a t) 0 ≡ Some o = cc in
     let side : o.direction ≡ a = listed_side t (g.met.T.Table.sound c.orders.table) a 0 o first in
-    let after : g.T.Table.contents c.take.new.table ≡ took_on a m t = c.take.ensures ∙ ap (λ d. took_on d m t) side in
-    let less : length (listed a (g.T.Table.contents c.take.new.table)) ≡ length (took m (listed a t)) = ap (λ z. length (listed a z)) after ∙ ap length (listed_on a (took m (listed a t)) t) in
+    let after : g.T.Table.contents c.take.new.table ≡ first_taken_on a m t = c.take.ensures ∙ ap (λ d. first_taken_on d m t) side in
+    let less : length (listed a (g.T.Table.contents c.take.new.table)) ≡ length (first_taken m (listed a t)) = ap (λ z. length (listed a z)) after ∙ ap length (listed_on a (first_taken m (listed a t)) t) in
     let smaller = took_smaller (listed a t) o c.orders.left m first c.min-volume.ensures c.if-left-eq0.false in
     omega (arith, less, smaller)
 
@@ -52,19 +52,19 @@ orders-preserved g c =
     let x = g.met.S.Side.across in
     let first : slice_get (listed a t) 0 ≡ Some o = cc in
     let side : o.direction ≡ a = listed_side t (g.met.T.Table.sound c.orders.table) a 0 o first in
-    let table : g.T.Table.contents c.take.new.table ≡ took_on a m t = c.take.ensures ∙ ap (λ d. took_on d m t) side in
-    let rest : listed a (g.T.Table.contents c.take.new.table) ≡ took m (listed a t) = ap (listed a) table ∙ listed_on a (took m (listed a t)) t in
+    let table : g.T.Table.contents c.take.new.table ≡ first_taken_on a m t = c.take.ensures ∙ ap (λ d. first_taken_on d m t) side in
+    let rest : listed a (g.T.Table.contents c.take.new.table) ≡ first_taken m (listed a t) = ap (listed a) table ∙ listed_on a (first_taken m (listed a t)) t in
     let w : willing a o.price p ≡ true = let y = c.if-not-meets.false in let z = c.meets.ensures in cc in
     let goes : (v == 0 || not (willing a o.price p)) ≡ false = or_from _ _ (ne_eqb v 0 c.if-left-eq0.false) (not_from_true _ w) in
     let turn = sweep_turn d n p (listed a t) o v m first goes c.min-volume.ensures in
     let below : k < length c.orders.run = omega (arith, inv.room (omega (arith, c.if-left-eq0.false)), first_length (listed a t) o first) in
     record {
       sweep =
-          inv.sweep ∙ ap (after (take k c.orders.run)) turn ∙ sym (after_more (take k c.orders.run) _ (sweep d n p (took m (listed a t)) (v - m)))
+          inv.sweep ∙ ap (after (take k c.orders.run)) turn ∙ sym (after_more (take k c.orders.run) _ (sweep d n p (first_taken m (listed a t)) (v - m)))
           ∙ (λ i. after (take k c.orders.run ++ (sym c.trade.ensures i ∷ [])) (sweep d n p (sym rest i) (v - m)))
           ∙ ap (λ ss. after ss (sweep d n p (listed a (g.T.Table.contents c.take.new.table)) (v - m))) (sym (take_more_set c.orders.run k c.trade.result below));
       table =
-          table ∙ ap (with_listed a (took m (listed a t))) inv.table ∙ on_twice a (took m (listed a t)) (listed a t) (g.T.Table.contents c.args.table.now)
+          table ∙ ap (with_listed a (first_taken m (listed a t))) inv.table ∙ on_twice a (first_taken m (listed a t)) (listed a t) (g.T.Table.contents c.args.table.now)
           ∙ ap (λ xs. with_listed a xs (g.T.Table.contents c.args.table.now)) (sym rest);
       run = same_behind k c.orders.run c.args.run.now inv.run c.trade.result;
       fits = rw length-set (omega (arith, below));

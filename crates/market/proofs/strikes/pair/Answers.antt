@@ -7,7 +7,7 @@ use Rattle.rules.specs.declared.order.Direction.TheVariants.{Buy, Sell}
 use Rattle.book.specs.declared.slip.Slip.TheVariants.{Trade}
 use Rattle.book.specs.Rows.{order_count}
 use Rattle.book.specs.Calls.{pair, turnover}
-use Rattle.market.specs.Fills.{took, took_on}
+use Rattle.market.specs.Fills.{first_taken, first_taken_on}
 use Rattle.market.proofs.Taking.{get_below}
 use Rattle.market.proofs.Writing.{same_behind}
 use Rattle.market.proofs.Pairing.{Both, after, after_more, still, none, none_sell, pair_stop, pair_turn, took_fewer, turnover_append, buy_first, sell_first, both_taken, ended}
@@ -64,9 +64,9 @@ pairs-preserved g c =
     let k = c.pairs.written in
     let slip = Trade b.number s.number p m in
     let last = g.T.Table.contents c.take-in-pairs.new.table in
-    let table : last ≡ took_on Sell m (took_on Buy m t) = both_taken t (g.met.T.Table.sound c.pairs.table) m b s hb hs _ c.take.ensures _ c.take-in-pairs.ensures in
+    let table : last ≡ first_taken_on Sell m (first_taken_on Buy m t) = both_taken t (g.met.T.Table.sound c.pairs.table) m b s hb hs _ c.take.ensures _ c.take-in-pairs.ensures in
     let fewer = took_fewer p t b s hb hs m c.min-volume.ensures in
-    let is : order_count last ≡ length (took m t.book.buys) + length (took m t.book.sells) = ap order_count table in
+    let is : order_count last ≡ length (first_taken m t.book.buys) + length (first_taken m t.book.sells) = ap order_count table in
     let goes : Both p b s ≡ true = and_from (willing Buy b.price p) (willing Sell s.price p) (let x = c.if-not-willing.false in let y = c.willing.ensures in cc) (let x = c.if-not-willing-2.false in let y = c.willing-else-not-willing.ensures in cc) in
     let turn = pair_turn p t b s hb hs m goes c.min-volume.ensures in
     let inv = c.pairs.invariant in
