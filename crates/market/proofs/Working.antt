@@ -14,17 +14,13 @@ use Rattle.book.specs.Day.{Day}
 use Rattle.book.specs.Calls.{Outcome, refused_by, done, step}
 use Rattle.book.specs.Law.{accepted}
 use Rattle.book.specs.Leads.{GoesOn, outcome}
-use Rattle.book.specs.Marks.{session_after}
+use Rattle.book.specs.Marks.{session_after, marks_after}
 use Rattle.book.specs.Model.{day_after, result}
 use Rattle.book.specs.Room.{FitsRun}
 use Rattle.book.proofs.Leading.{going_on}
 use Rattle.book.proofs.Rooms.{room_stands}
 use Rattle.market.specs.Outcome.{written_into, answer_of, run_after}
-use Rattle.market.specs.Works.{Seen, followed, trial, Work, came_to, work_by, by_the_rules, slips_counted, verdict, line_of, Lawfully}
-
-abbrev is_ok : Result (Answer Told) ℕ → Bool
-is_ok (Ok a) = true
-is_ok (Err n) = false
+use Rattle.market.specs.Works.{Seen, trial, Work, came_to, work_by, by_the_rules, slips_counted, verdict, line_of, Lawfully}
 
 -- the slips that an answer counts are those that were written
 taken : (run : List Slip) (a : Answer Told) (slips : List Slip) → a.slips ≡ length slips → take a.slips (written_into run slips) ≡ slips
@@ -74,6 +70,11 @@ module _ (s : Seen) (call : Call) (run : List Slip) where
 abbrev pub session_of : Terms → Day → DayRecord → Seen
 session_of t day m = record { terms = t; session = record { day = day; marks = m } }
 
+-- the marks after a call that answered this, wrote this run and left this day
+abbrev pub followed : Terms → Stage → Call → DayRecord → Result (Answer Told) ℕ → List Slip → Day → DayRecord
+followed t stage call m (Err n) run day = m
+followed t stage call m (Ok a) run day = marks_after t stage call m (take a.slips run) day.table.book
+
 module _ (t : Terms) (day : Day) (m : DayRecord) (call : Call) (run : List Slip) where
   abbrev out : Outcome
   out = step t day call (length run)
@@ -81,36 +82,25 @@ module _ (t : Terms) (day : Day) (m : DayRecord) (call : Call) (run : List Slip)
   abbrev before : Seen
   before = session_of t day m
 
-  -- z is the session before the call
-  module _ (z : Seen) (same : before ≡ z) (day' : Day) (run' : List Slip) (ed : day' ≡ day_after day out) (er : run' ≡ run_after run out) where
-    -- a refusal leaves the session as it was
-    pub refused_is : (n : ℕ) → Err n ≡ answer_of out → came_to (Err n) (session_of t day' m) run' ≡ by_the_rules z call run
-    refused_is n ea = go out ea ed er ∙ ap (λ s. by_the_rules s call run) same
+  module _ (r : Result (Answer Told) ℕ) (after : Day) (m' : DayRecord) (run' : List Slip) (er : r ≡ answer_of out) (es : run' ≡ run_after run out) where
+    -- the run has a place for each slip that the answer counts
+    pub answer_fits : slips_counted r ≤ length run'
+    answer_fits = go out er es (room_stands t day call (length run))
       where
-        go : (o : Outcome) → Err n ≡ answer_of o → day' ≡ day_after day o → run' ≡ run_after run o → came_to (Err n) (session_of t day' m) run' ≡ work_by before call run o
-        go (refused_by k) ea ed er = λ i. came_to (ea i) (session_of t (ed i) m) (er i)
-        go (done d b slips) ea ed er = absurd (both_ways true (sym (ap is_ok ea)) refl)
+        go : (o : Outcome) → r ≡ answer_of o → run' ≡ run_after run o → FitsRun (length run) o → slips_counted r ≤ length run'
+        go o e f k = subst (λ z. slips_counted z ≤ length run') (sym e) (subst (λ z. slips_counted (answer_of o) ≤ length z) (sym f) (counted_fits before call run o k))
 
-    module _ (a : Answer Told) (ea : Ok a ≡ answer_of out) where
-      pub done_fits : a.slips ≤ length run'
-      done_fits = go out ea er (room_stands t day call (length run))
+    module _ (ed : after ≡ day_after day out) (em : m' ≡ followed t day.stage call m r run' after) where
+      -- what the day does with a call, and the marks that follow it, are what the session does
+      pub works_is : came_to r (session_of t after m') run' ≡ by_the_rules before call run
+      works_is =
+          (λ i. came_to (er i) (session_of t (ed i) ((em ∙ (λ j. followed t day.stage call m (er j) (es j) (ed j))) i)) (es i))
+          ∙ go out (room_stands t day call (length run))
         where
-          go : (o : Outcome) → Ok a ≡ answer_of o → run' ≡ run_after run o → FitsRun (length run) o → a.slips ≤ length run'
-          go (refused_by k) ea er f = absurd (both_ways true (ap is_ok ea) refl)
-          go (done d b slips) ea er f =
-              subst (λ z. a.slips ≤ length z) (sym er) (room_for run slips a.slips (ap slips_counted ea ∙ f.0) f.1)
-
-      pub done_is :
-          (stage : Stage) → stage ≡ day.stage → (v : Seen) → v ≡ followed (session_of t day' m) stage call (take a.slips run') →
-          came_to (Ok a) v run' ≡ by_the_rules z call run
-      done_is stage es v ev =
-          ap (λ x. came_to (Ok a) x run') (ev ∙ ap (λ s. followed (session_of t day' m) s call (take a.slips run')) es)
-          ∙ go out ea ed er (room_stands t day call (length run))
-          ∙ ap (λ s. by_the_rules s call run) same
-        where
-          go : (o : Outcome) → Ok a ≡ answer_of o → day' ≡ day_after day o → run' ≡ run_after run o → FitsRun (length run) o →
-              came_to (Ok a) (followed (session_of t day' m) day.stage call (take a.slips run')) run' ≡ work_by before call run o
-          go (refused_by k) ea ed er f = absurd (both_ways true (ap is_ok ea) refl)
-          go (done d b slips) ea ed er f =
-              (λ i. came_to (ea i) (followed (session_of t (ed i) m) day.stage call (take (slips_counted (ea i)) (er i))) (er i))
-              ∙ ap (λ ss. came_to (Ok b) (followed (session_of t d m) day.stage call ss) (written_into run slips)) (taken run b slips f.0)
+          go :
+              (o : Outcome) → FitsRun (length run) o →
+              came_to (answer_of o) (session_of t (day_after day o) (followed t day.stage call m (answer_of o) (run_after run o) (day_after day o))) (run_after run o) ≡
+              work_by before call run o
+          go (refused_by n) f = refl
+          go (done d a slips) f =
+              ap (λ ss. came_to (Ok a) (session_of t d (marks_after t day.stage call m ss d.table.book)) (written_into run slips)) (taken run a slips f.0)

@@ -6,13 +6,12 @@ use Rattle.book.specs.declared.answer.Answer.{Answer}
 use Rattle.book.specs.declared.answer.Told.{Told}
 use Rattle.book.specs.declared.call.Call.{Call}
 use Rattle.book.specs.declared.slip.Slip.{Slip}
-use Rattle.book.specs.declared.stage.Stage.{Stage}
 use Rattle.book.specs.Calls.{Outcome}
 use Rattle.book.specs.Journal.{Line}
 use Rattle.book.specs.Law.{Try, Verdict, refused, accepted}
 use Rattle.book.specs.Ending.{reference_by}
 use Rattle.book.specs.Leads.{outcome, Leads, GoesOn}
-use Rattle.book.specs.Marks.{Session, marks_after, new_session, session_after}
+use Rattle.book.specs.Marks.{Session, new_session, session_after}
 use Rattle.market.specs.Outcome.{answer_of, run_after}
 
 -- what a session means: its terms, and its day with what the next reference price needs
@@ -23,12 +22,6 @@ pub record Seen : Type 0 where
 -- a session that begins
 abbrev pub session_start : Terms → Capacity → Seen
 session_start t cap = record { terms = t; session = new_session cap }
-
--- after an accepted call that was made in this stage and wrote these slips, the next reference price needs this
-abbrev pub followed : Seen → Stage → Call → List Slip → Seen
-followed s stage call slips =
-    let x : Session = s.session in
-    record s { session = record x { marks = marks_after s.terms stage call x.marks slips x.day.table.book } }
 
 abbrev pub trial : Call → List Slip → Try
 trial call run = record { call = call; room = length run }

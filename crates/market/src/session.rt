@@ -3,7 +3,7 @@ ghost use Rattle.std.specs.Prelude.{◌≡◌, length};
 ghost use Rattle.book.specs.Marks.{reference_left};
 ghost use Rattle.book.specs.declared.call.Call.TheVariants.{Enter, Alter, Withdraw, Advance};
 ghost use Rattle.market.specs.Outcome.{by_number, told_as};
-ghost use Rattle.market.specs.Works.{session_start, followed, came_to, by_the_rules, Lawfully, EndsAs};
+ghost use Rattle.market.specs.Works.{session_start, came_to, by_the_rules, Lawfully, EndsAs};
 
 use crate::day::Day;
 use crate::marks::marks_after;
@@ -51,6 +51,7 @@ impl<T: Table> Session<T> {
     }
 
     // Ends the session, and the table with it. Before Closed it leaves nothing.
+    #[tactic(auto, using(book::proofs::Endings::ends_by_journal))]
     pub fn end(self) -> EndedDay
     where
         T: Drop,
@@ -65,13 +66,6 @@ impl<T: Table> Session<T> {
         EndedDay::new(&terms, left)
     }
 
-    // What the next reference price needs, after an accepted call that was made in this stage and wrote these slips.
-    fn follow(&mut self, stage: Stage, call: Call, slips: &[Slip])
-        ensures { self.new ≡ followed self.old stage call slips.now }
-    {
-        self.marks = marks_after(&self.terms, stage, &call, self.marks, slips, &self.day);
-    }
-
     pub fn enter(&mut self, new: NewOrder, run: &mut [Slip]) -> Result<Answer<Entered>, Refusal>
         ensures outcome { came_to (told_as Told.Entered result) self.new run.new
             ≡ by_the_rules self.old (Enter new) run.old }
@@ -80,7 +74,15 @@ impl<T: Table> Session<T> {
     {
         let stage = self.day.stage();
         let answer = self.day.enter(&self.terms, new, run)?;
-        self.follow(stage, Call::Enter(new), &run[..answer.slips]);
+        let slips = &run[..answer.slips];
+        self.marks = marks_after(
+            &self.terms,
+            stage,
+            &Call::Enter(new),
+            self.marks,
+            slips,
+            &self.day,
+        );
         Ok(answer)
     }
 
@@ -96,7 +98,15 @@ impl<T: Table> Session<T> {
     {
         let stage = self.day.stage();
         let answer = self.day.alter(&self.terms, wanted, run)?;
-        self.follow(stage, Call::Alter(wanted), &run[..answer.slips]);
+        let slips = &run[..answer.slips];
+        self.marks = marks_after(
+            &self.terms,
+            stage,
+            &Call::Alter(wanted),
+            self.marks,
+            slips,
+            &self.day,
+        );
         Ok(answer)
     }
 
@@ -112,7 +122,15 @@ impl<T: Table> Session<T> {
     {
         let stage = self.day.stage();
         let answer = self.day.withdraw(named)?;
-        self.follow(stage, Call::Withdraw(named), &run[..answer.slips]);
+        let slips = &run[..answer.slips];
+        self.marks = marks_after(
+            &self.terms,
+            stage,
+            &Call::Withdraw(named),
+            self.marks,
+            slips,
+            &self.day,
+        );
         Ok(answer)
     }
 
@@ -124,7 +142,15 @@ impl<T: Table> Session<T> {
     {
         let stage = self.day.stage();
         let answer = self.day.advance(&self.terms, run)?;
-        self.follow(stage, Call::Advance, &run[..answer.slips]);
+        let slips = &run[..answer.slips];
+        self.marks = marks_after(
+            &self.terms,
+            stage,
+            &Call::Advance,
+            self.marks,
+            slips,
+            &self.day,
+        );
         Ok(answer)
     }
 

@@ -1,10 +1,12 @@
-use Rattle.std.proofs.Common.{◌≡◌, Err, ap, ◌∙◌, rules}
+use Rattle.std.proofs.Common.{◌≡◌, Ok, Err, refl, ap, ◌∙◌, take, rules, arith}
+use Rattle.std.proofs.lemmas.List.{length-take}
 use Rattle.rules.specs.Refusal.{number}
+use Rattle.book.specs.Marks.{marks_after}
 use Rattle.book.specs.declared.answer.Told.TheVariants.{Altered}
 use Rattle.book.specs.declared.call.Call.TheVariants.{Alter}
 use Rattle.market.specs.Outcome.{told_as}
-use Rattle.market.specs.Works.{came_to}
-use Rattle.market.proofs.Working.{session_of, refused_is, done_is, done_fits, lawfully}
+use Rattle.market.specs.Works.{came_to, by_the_rules}
+use Rattle.market.proofs.Working.{session_of, works_is, answer_fits, lawfully}
 use Rattle.market.proofs.session.Session.alter.Goals as goal
 
 pub returns-in_err-answer-clause-outcome : goal.returns-in_err-answer-clause-outcome
@@ -13,26 +15,35 @@ returns-in_err-answer-clause-outcome g c =
     let n = number c.in_err-answer.field-0.0 in
     let e : told_as Altered c.from_residual.result ≡ Err n = search rules in
     ap (λ r. came_to r (session_of s.terms c.alter.new.self s.marks) c.alter.new.run) e
-    ∙ refused_is s.terms s.day s.marks (Alter c.args.wanted) c.args.run.now _ c.self.view_is _ c.alter.new.run c.alter.ensures.day c.alter.ensures.run n c.in_err-answer.ensures.answer
+    ∙ works_is s.terms s.day s.marks (Alter c.args.wanted) c.args.run.now (Err n) c.alter.new.self s.marks c.alter.new.run c.in_err-answer.ensures.answer c.alter.ensures.run c.alter.ensures.day refl
+    ∙ ap (λ z. by_the_rules z (Alter c.args.wanted) c.args.run.now) c.self.view_is
 
 pub returns-in_err-answer-clause-lawful : goal.returns-in_err-answer-clause-lawful
 returns-in_err-answer-clause-lawful g c =
     lawfully c.args.self.now (Alter c.args.wanted) c.args.run.now _ (returns-in_err-answer-clause-outcome g c)
 
-pub slice_bounds-follow-end : goal.slice_bounds-follow-end
-slice_bounds-follow-end g c =
+pub slice_bounds-slips-end : goal.slice_bounds-slips-end
+slice_bounds-slips-end g c =
     let s = c.self.inside in
     let a = c.in_ok-answer.answer in
-    done_fits s.terms s.day s.marks (Alter c.args.wanted) c.args.run.now _ c.self.view_is _ c.alter.new.run c.alter.ensures.day c.alter.ensures.run
-    (record { told = Altered a.told; slips = a.slips }) c.in_ok-answer.ensures.answer
+    answer_fits s.terms s.day s.marks (Alter c.args.wanted) c.args.run.now (Ok (record { told = Altered a.told; slips = a.slips })) c.alter.new.self s.marks
+    c.alter.new.run c.in_ok-answer.ensures.answer c.alter.ensures.run
+
+pub slice_bounds-slips-end-2 : goal.slice_bounds-slips-end-2
+slice_bounds-slips-end-2 g c =
+    omega (arith, slice_bounds-slips-end g c, length-take c.in_ok-answer.answer.slips c.alter.new.run)
 
 pub returns-clause-outcome : goal.returns-clause-outcome
 returns-clause-outcome g c =
     let s = c.self.inside in
     let a = c.in_ok-answer.answer in
-    done_is s.terms s.day s.marks (Alter c.args.wanted) c.args.run.now _ c.self.view_is _ c.alter.new.run c.alter.ensures.day c.alter.ensures.run
-    (record { told = Altered a.told; slips = a.slips }) c.in_ok-answer.ensures.answer
-    _ c.stage-stage.ensures _ c.follow.ensures
+    let marks =
+    c.marks_after-self-inside.ensures ∙
+    ap (λ st. marks_after s.terms st (Alter c.args.wanted) s.marks (take a.slips c.alter.new.run) c.alter.new.self.table.book) c.stage-stage.ensures
+    in
+    works_is s.terms s.day s.marks (Alter c.args.wanted) c.args.run.now (Ok (record { told = Altered a.told; slips = a.slips })) c.alter.new.self _ c.alter.new.run
+    c.in_ok-answer.ensures.answer c.alter.ensures.run c.alter.ensures.day marks
+    ∙ ap (λ z. by_the_rules z (Alter c.args.wanted) c.args.run.now) c.self.view_is
 
 pub returns-clause-lawful : goal.returns-clause-lawful
 returns-clause-lawful g c = lawfully c.args.self.now (Alter c.args.wanted) c.args.run.now _ (returns-clause-outcome g c)
