@@ -1,6 +1,6 @@
 // The session: from start, call after call, to its end.
 ghost use Rattle.std.specs.Prelude.{◌≡◌, length};
-ghost use Rattle.book.specs.Marks.{reference_left};
+ghost use Rattle.book.specs.Marks.{marks_after as marks_by, reference_left};
 ghost use Rattle.book.specs.declared.call.Call.TheVariants.{Enter, Alter, Withdraw, Advance};
 ghost use Rattle.market.specs.Outcome.{by_number, told_as};
 ghost use Rattle.market.specs.Works.{session_start, came_to, by_the_rules, Lawfully, EndsAs};
@@ -66,6 +66,14 @@ impl<T: Table> Session<T> {
         EndedDay::new(&terms, left)
     }
 
+    // The marks after an accepted call that was made in this stage and wrote these slips.
+    fn marks_then(&self, stage: Stage, call: Call, slips: &[Slip]) -> DayRecord
+        ensures { let s = self.now.session in
+            result ≡ marks_by self.now.terms stage call s.marks slips.now s.day.table.book }
+    {
+        marks_after(&self.terms, stage, &call, self.marks, slips, &self.day)
+    }
+
     pub fn enter(&mut self, new: NewOrder, run: &mut [Slip]) -> Result<Answer<Entered>, Refusal>
         ensures outcome { came_to (told_as Told.Entered result) self.new run.new
             ≡ by_the_rules self.old (Enter new) run.old }
@@ -74,15 +82,7 @@ impl<T: Table> Session<T> {
     {
         let stage = self.day.stage();
         let answer = self.day.enter(&self.terms, new, run)?;
-        let slips = &run[..answer.slips];
-        self.marks = marks_after(
-            &self.terms,
-            stage,
-            &Call::Enter(new),
-            self.marks,
-            slips,
-            &self.day,
-        );
+        self.marks = self.marks_then(stage, Call::Enter(new), &run[..answer.slips]);
         Ok(answer)
     }
 
@@ -98,15 +98,7 @@ impl<T: Table> Session<T> {
     {
         let stage = self.day.stage();
         let answer = self.day.alter(&self.terms, wanted, run)?;
-        let slips = &run[..answer.slips];
-        self.marks = marks_after(
-            &self.terms,
-            stage,
-            &Call::Alter(wanted),
-            self.marks,
-            slips,
-            &self.day,
-        );
+        self.marks = self.marks_then(stage, Call::Alter(wanted), &run[..answer.slips]);
         Ok(answer)
     }
 
@@ -122,15 +114,7 @@ impl<T: Table> Session<T> {
     {
         let stage = self.day.stage();
         let answer = self.day.withdraw(named)?;
-        let slips = &run[..answer.slips];
-        self.marks = marks_after(
-            &self.terms,
-            stage,
-            &Call::Withdraw(named),
-            self.marks,
-            slips,
-            &self.day,
-        );
+        self.marks = self.marks_then(stage, Call::Withdraw(named), &run[..answer.slips]);
         Ok(answer)
     }
 
@@ -142,15 +126,7 @@ impl<T: Table> Session<T> {
     {
         let stage = self.day.stage();
         let answer = self.day.advance(&self.terms, run)?;
-        let slips = &run[..answer.slips];
-        self.marks = marks_after(
-            &self.terms,
-            stage,
-            &Call::Advance,
-            self.marks,
-            slips,
-            &self.day,
-        );
+        self.marks = self.marks_then(stage, Call::Advance, &run[..answer.slips]);
         Ok(answer)
     }
 

@@ -22,23 +22,23 @@ pub returns-in_err-answer-clause-lawful : goal.returns-in_err-answer-clause-lawf
 returns-in_err-answer-clause-lawful g c =
     lawfully c.args.self.now (Alter c.args.wanted) c.args.run.now _ (returns-in_err-answer-clause-outcome g c)
 
-pub slice_bounds-slips-end : goal.slice_bounds-slips-end
-slice_bounds-slips-end g c =
+pub slice_bounds-marks_then-end : goal.slice_bounds-marks_then-end
+slice_bounds-marks_then-end g c =
     let s = c.self.inside in
     let a = c.in_ok-answer.answer in
     answer_fits s.terms s.day s.marks (Alter c.args.wanted) c.args.run.now (Ok (record { told = Altered a.told; slips = a.slips })) c.alter.new.self s.marks
     c.alter.new.run c.in_ok-answer.ensures.answer c.alter.ensures.run
 
-pub slice_bounds-slips-end-2 : goal.slice_bounds-slips-end-2
-slice_bounds-slips-end-2 g c =
-    omega (arith, slice_bounds-slips-end g c, length-take c.in_ok-answer.answer.slips c.alter.new.run)
+pub slice_bounds-marks_then-end-2 : goal.slice_bounds-marks_then-end-2
+slice_bounds-marks_then-end-2 g c =
+    omega (arith, slice_bounds-marks_then-end g c, length-take c.in_ok-answer.answer.slips c.alter.new.run)
 
 pub returns-clause-outcome : goal.returns-clause-outcome
 returns-clause-outcome g c =
     let s = c.self.inside in
     let a = c.in_ok-answer.answer in
     let marks =
-    c.marks_after-self-inside.ensures ∙
+    c.marks_then-self-inside.ensures ∙
     ap (λ st. marks_after s.terms st (Alter c.args.wanted) s.marks (take a.slips c.alter.new.run) c.alter.new.self.table.book) c.stage-stage.ensures
     in
     works_is s.terms s.day s.marks (Alter c.args.wanted) c.args.run.now (Ok (record { told = Altered a.told; slips = a.slips })) c.alter.new.self _ c.alter.new.run

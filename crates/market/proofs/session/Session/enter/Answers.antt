@@ -21,8 +21,8 @@ pub returns-in_err-answer-clause-lawful : goal.returns-in_err-answer-clause-lawf
 returns-in_err-answer-clause-lawful g c =
     lawfully c.args.self.now (Enter c.args.new) c.args.run.now _ (returns-in_err-answer-clause-outcome g c)
 
-pub slice_bounds-slips-end : goal.slice_bounds-slips-end
-slice_bounds-slips-end g c =
+pub slice_bounds-marks_then-end : goal.slice_bounds-marks_then-end
+slice_bounds-marks_then-end g c =
     let s = c.self.inside in
     let a = c.in_ok-answer.answer in
     answer_fits s.terms s.day s.marks (Enter c.args.new) c.args.run.now (Ok (record { told = Entered a.told; slips = a.slips })) c.enter.new.self s.marks
@@ -33,7 +33,7 @@ returns-clause-outcome g c =
     let s = c.self.inside in
     let a = c.in_ok-answer.answer in
     let marks =
-    c.marks_after-self-inside.ensures ∙
+    c.marks_then-self-inside.ensures ∙
     ap (λ st. marks_after s.terms st (Enter c.args.new) s.marks (take a.slips c.enter.new.run) c.enter.new.self.table.book) c.stage-stage.ensures
     in
     works_is s.terms s.day s.marks (Enter c.args.new) c.args.run.now (Ok (record { told = Entered a.told; slips = a.slips })) c.enter.new.self _ c.enter.new.run

@@ -23,23 +23,23 @@ pub returns-in_err-answer-clause-lawful : goal.returns-in_err-answer-clause-lawf
 returns-in_err-answer-clause-lawful g c =
     lawfully c.args.self.now (Withdraw c.args.named) c.args.run.now _ (returns-in_err-answer-clause-outcome g c)
 
-pub slice_bounds-slips-end : goal.slice_bounds-slips-end
-slice_bounds-slips-end g c =
+pub slice_bounds-marks_then-end : goal.slice_bounds-marks_then-end
+slice_bounds-marks_then-end g c =
     let s = c.self.inside in
     let a = c.in_ok-answer.answer in
     answer_fits s.terms s.day s.marks (Withdraw c.args.named) c.args.run.now (Ok (record { told = Withdrawn a.told; slips = a.slips })) c.withdraw.new.self s.marks
     c.args.run.now (c.in_ok-answer.ensures.answer s.terms (length c.args.run.now)) (nothing_written s.terms s.day (length c.args.run.now) c.args.named c.args.run.now)
 
-pub slice_bounds-slips-end-2 : goal.slice_bounds-slips-end-2
-slice_bounds-slips-end-2 g c =
-    omega (arith, slice_bounds-slips-end g c, length-take c.in_ok-answer.answer.slips c.args.run.now)
+pub slice_bounds-marks_then-end-2 : goal.slice_bounds-marks_then-end-2
+slice_bounds-marks_then-end-2 g c =
+    omega (arith, slice_bounds-marks_then-end g c, length-take c.in_ok-answer.answer.slips c.args.run.now)
 
 pub returns-clause-outcome : goal.returns-clause-outcome
 returns-clause-outcome g c =
     let s = c.self.inside in
     let a = c.in_ok-answer.answer in
     let marks =
-    c.marks_after-self-inside.ensures ∙
+    c.marks_then-self-inside.ensures ∙
     ap (λ st. marks_after s.terms st (Withdraw c.args.named) s.marks (take a.slips c.args.run.now) c.withdraw.new.self.table.book) c.stage-stage.ensures
     in
     works_is s.terms s.day s.marks (Withdraw c.args.named) c.args.run.now (Ok (record { told = Withdrawn a.told; slips = a.slips })) c.withdraw.new.self _ c.args.run.now
