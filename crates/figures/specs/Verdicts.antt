@@ -1,12 +1,8 @@
--- When given figures agree with published ones.
-use Rattle.std.specs.Prelude.{ℕ, ◌+◌, ◌%◌, ◌^◌, Bool, false, cond, ◌&&◌, Some, None, Option, ◌==◌}
+-- When the figures of a day agree with the published ones.
+use Rattle.std.specs.Prelude.{ℕ, Bool, false, cond, ◌&&◌, Some, None, Option, ◌==◌}
 use Rattle.figures.specs.declared.shown.Day.{Day}
-use Rattle.figures.specs.declared.verdict.Tally.{Tally}
-use Rattle.figures.specs.declared.verdict.Verdict.{Verdict}
-use Rattle.figures.specs.declared.verdict.Verdict.TheVariants.{Agrees, KnownDifference, Differs}
-
-abbrev pub plain : Bool → Verdict
-plain same = cond same Agrees Differs
+use Rattle.report.specs.declared.verdict.Verdict.{Verdict}
+use Rattle.report.specs.declared.verdict.Verdict.TheVariants.{Agrees, KnownDifference, Differs}
 
 -- the number is there and is n
 abbrev pub is : Option ℕ → ℕ → Bool
@@ -19,11 +15,3 @@ of_day given published known =
     cond (given.reference == published.reference && given.highest == published.highest && given.next == published.next)
     (cond (given.lowest == published.lowest) Agrees (cond (is known given.lowest) KnownDifference Differs))
     Differs
-
-abbrev one_more : ℕ → ℕ
-one_more n = (n + 1) % 2 ^ 64
-
-abbrev pub counted : Verdict → Tally → Tally
-counted Agrees t = record { agree = one_more t.agree; known = t.known; differ = t.differ }
-counted KnownDifference t = record { agree = t.agree; known = one_more t.known; differ = t.differ }
-counted Differs t = record { agree = t.agree; known = t.known; differ = one_more t.differ }

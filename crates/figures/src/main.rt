@@ -4,11 +4,11 @@
 mod chain;
 mod days;
 mod published;
-mod report;
 mod shown;
 mod verdict;
 
 use anyhow::Context;
+use chain::show_days;
 use days::left_by;
 use published::{Asked, Band, Entry, Untraded};
 use report::Report;
@@ -26,104 +26,108 @@ fn terms_of(reference: u32, block: u32) -> anyhow::Result<Terms> {
         .context("the terms are refused")
 }
 
-impl<R: Print> Report<R> {
-    fn show_band(&mut self, published: &Band) -> anyhow::Result<()> {
-        let Band { reference, limits } = published;
-        let given = Limits::from(terms_of(*reference, 1)?.band());
-        self.compare(format_args!("band of {reference}"), &given, limits)
-    }
+fn show_band<R: Print>(report: &mut Report<R>, published: &Band) -> anyhow::Result<()> {
+    let Band { reference, limits } = published;
+    let given = Limits::from(terms_of(*reference, 1)?.band());
+    report.compare(format_args!("band of {reference}"), &given, limits)
+}
 
-    fn show_fixing(
-        &mut self,
-        terms: &Terms,
-        orders: &[Order],
-        published: Fixed,
-    ) -> anyhow::Result<()> {
-        self.compare(
-            format_args!("fixing at {} of{}", terms.reference(), Lines(orders)),
-            &Fixed::from(fixing(terms, orders)),
-            &published,
-        )
-    }
+fn show_fixing<R: Print>(
+    report: &mut Report<R>,
+    terms: &Terms,
+    orders: &[Order],
+    published: Fixed,
+) -> anyhow::Result<()> {
+    report.compare(
+        format_args!("fixing at {} of{}", terms.reference(), Lines(orders)),
+        &Fixed::from(fixing(terms, orders)),
+        &published,
+    )
+}
 
-    fn show_fixings(&mut self, terms: &Terms) -> anyhow::Result<()> {
-        let apart = [
-            Order::limit(1, 1, Direction::Buy, 1020, 20),
-            Order::limit(2, 1, Direction::Sell, 1040, 20),
-        ];
-        self.show_fixing(terms, &apart, Fixed(None))?;
-        let crossed = [
-            Order::limit(1, 1, Direction::Buy, 1030, 50),
-            Order::limit(2, 1, Direction::Buy, 1010, 30),
-            Order::limit(3, 1, Direction::Sell, 1000, 40),
-            Order::limit(4, 1, Direction::Sell, 1020, 40),
-        ];
-        self.show_fixing(
-            terms,
-            &crossed,
-            Fixed(Some(Struck {
-                price: 1020,
-                volume: 50,
-            })),
-        )?;
-        let beside = [
-            Order::limit(1, 1, Direction::Buy, 1010, 40),
-            Order::limit(2, 1, Direction::Buy, 1000, 20),
-            Order::limit(3, 1, Direction::Sell, 990, 40),
-        ];
-        self.show_fixing(
-            terms,
-            &beside,
-            Fixed(Some(Struck {
-                price: 1001,
-                volume: 40,
-            })),
-        )
-    }
+fn show_fixings<R: Print>(report: &mut Report<R>, terms: &Terms) -> anyhow::Result<()> {
+    let apart = [
+        Order::limit(1, 1, Direction::Buy, 1020, 20),
+        Order::limit(2, 1, Direction::Sell, 1040, 20),
+    ];
+    show_fixing(report, terms, &apart, Fixed(None))?;
+    let crossed = [
+        Order::limit(1, 1, Direction::Buy, 1030, 50),
+        Order::limit(2, 1, Direction::Buy, 1010, 30),
+        Order::limit(3, 1, Direction::Sell, 1000, 40),
+        Order::limit(4, 1, Direction::Sell, 1020, 40),
+    ];
+    show_fixing(
+        report,
+        terms,
+        &crossed,
+        Fixed(Some(Struck {
+            price: 1020,
+            volume: 50,
+        })),
+    )?;
+    let beside = [
+        Order::limit(1, 1, Direction::Buy, 1010, 40),
+        Order::limit(2, 1, Direction::Buy, 1000, 20),
+        Order::limit(3, 1, Direction::Sell, 990, 40),
+    ];
+    show_fixing(
+        report,
+        terms,
+        &beside,
+        Fixed(Some(Struck {
+            price: 1001,
+            volume: 40,
+        })),
+    )
+}
 
-    fn show_untraded(&mut self, published: &Untraded) -> anyhow::Result<()> {
-        let Untraded {
-            reference,
-            course,
-            next,
-        } = published;
-        let terms = terms_of(*reference, 1)?;
-        self.compare(
-            format_args!("next reference of {reference}: {course}"),
-            &next_reference(&terms, Some(left_by(&terms, course))),
-            next,
-        )
-    }
+fn show_untraded<R: Print>(report: &mut Report<R>, published: &Untraded) -> anyhow::Result<()> {
+    let Untraded {
+        reference,
+        course,
+        next,
+    } = published;
+    let terms = terms_of(*reference, 1)?;
+    report.compare(
+        format_args!("next reference of {reference}: {course}"),
+        &next_reference(&terms, Some(left_by(&terms, course))),
+        next,
+    )
+}
 
-    fn show_entry(&mut self, terms: &Terms, published: &Entry) -> anyhow::Result<()> {
-        let Entry { asked, answer } = published;
-        // one check for each thing that is asked: a table of checks could not print what was asked
-        let given = match *asked {
-            Asked::Price(price) => check_price(terms, price),
-            Asked::Volume(volume) => check_volume(terms, volume),
-        };
-        self.compare(
-            format_args!("{asked} at {}, block {}", terms.reference(), terms.block()),
-            &Answer(given),
-            &Answer(*answer),
-        )
-    }
+fn show_entry<R: Print>(
+    report: &mut Report<R>,
+    terms: &Terms,
+    published: &Entry,
+) -> anyhow::Result<()> {
+    let Entry { asked, answer } = published;
+    // one check for each thing that is asked: a table of checks could not print what was asked
+    let given = match *asked {
+        Asked::Price(price) => check_price(terms, price),
+        Asked::Volume(volume) => check_volume(terms, volume),
+    };
+    report.compare(
+        format_args!("{asked} at {}, block {}", terms.reference(), terms.block()),
+        &Answer(given),
+        &Answer(*answer),
+    )
 }
 
 fn main(rt: HostRuntime) -> anyhow::Result<()> {
     let mut report = Report::new(rt);
     for b in &published::BANDS {
-        report.show_band(b)?;
+        show_band(&mut report, b)?;
     }
     let terms = terms_of(1000, 10)?;
-    report.show_fixings(&terms)?;
+    show_fixings(&mut report, &terms)?;
     for u in &published::UNTRADED {
-        report.show_untraded(u)?;
+        show_untraded(&mut report, u)?;
     }
     for e in &published::ENTRIES {
-        report.show_entry(&terms, e)?;
+        show_entry(&mut report, &terms, e)?;
     }
-    report.show_days('A', &published::SYMBOL_A)?;
-    report.show_days('B', &published::SYMBOL_B)?;
-    report.close()
+    show_days(&mut report, 'A', &published::SYMBOL_A)?;
+    show_days(&mut report, 'B', &published::SYMBOL_B)?;
+    report.close("figures")
 }

@@ -1,3 +1,3 @@
 pub mod Cases
+pub mod Reading
 pub mod Sessions
-pub mod Verdicts

@@ -1,15 +1,16 @@
 // Days that no file can write: a run of its own for each call, and all arrivals of a day.
 ghost use Rattle.std.specs.Prelude.{◌≡◌, ◌++◌, OnOk};
 ghost use Rattle.std.specs.String.{string_bytes};
-ghost use Rattle.session_cases.specs.Sessions.{said};
+ghost use Rattle.session_cases.specs.Sessions.{text_of_call};
 
-use crate::report::Report;
-use crate::verdict::agreement;
 use crate::worked::{NO_SLIP, no_order};
 use anyhow::Context;
 use book::answer::{Answer, Told};
+use book::call::{NewOrder, Withdrawal};
 use book::slip::Slip;
 use market::session::Session;
+use report::Report;
+use report::verdict::agreement;
 use rules::order::Direction;
 use rules::refusal::Refusal;
 use rules::terms::Terms;
@@ -22,8 +23,12 @@ use tables::table::Table;
 // A call as a file writes it, behind how many slips it may write.
 type Step = (usize, &'static str);
 
-fn put(out: &mut String, came: Result<Answer, Refusal>, run: &[Slip]) -> Result<(), AllocError>
-    ensures { OnOk result (string_bytes out.new ≡ string_bytes out.old ++ said came run.now) }
+fn put(
+    out: &mut String,
+    came: Result<Answer<Told>, Refusal>,
+    run: &[Slip],
+) -> Result<(), AllocError>
+    ensures { OnOk result (string_bytes out.new ≡ string_bytes out.old ++ text_of_call came run.now) }
 {
     match came {
         Ok(answer) => put_call(out, &came, &run[..run.len().min(answer.slips)]),
@@ -50,16 +55,19 @@ fn put_steps<T: Table>(
 // An order that comes and goes, so many times.
 fn pass_by<T: Table>(session: &mut Session<T>, times: u32) {
     let mut run = [NO_SLIP; 8];
+    let new = NewOrder {
+        member: 3,
+        direction: Direction::Buy,
+        limit: Some(800),
+        volume: 10,
+    };
     for _ in 0..times {
-        let came = session.enter(3, Direction::Buy, Some(800), 10, &mut run);
-        if let Ok(
-            Answer {
-                told: Told::Entered { number, .. },
-                ..
-            },
-        ) = came
-        {
-            let _ = session.withdraw(3, number, &mut run);
+        if let Ok(entered) = session.enter(new, &mut run) {
+            let named = Withdrawal {
+                member: new.member,
+                number: entered.told.number,
+            };
+            let _ = session.withdraw(named, &mut run);
         }
     }
 }
@@ -215,27 +223,26 @@ fn answer<T: Table + Drop>(heap: Global, table: T, day: &Day) -> anyhow::Result<
     Ok(out)
 }
 
-impl<R: Print> Report<R> {
-    fn show_day(
-        &mut self,
-        heap: Global,
-        name: &str,
-        places: usize,
-        day: &Day,
-    ) -> anyhow::Result<()> {
-        let mut orders = vec![in heap; no_order(); places]?;
-        let given = answer(heap, Queue::new(&mut orders), day)?;
-        self.tell(name, agreement(&given, day.text))
-    }
+fn show_day<R: Print>(
+    report: &mut Report<R>,
+    heap: Global,
+    name: &str,
+    places: usize,
+    day: &Day,
+) -> anyhow::Result<()> {
+    let mut orders = vec![in heap; no_order(); places]?;
+    let given = answer(heap, Queue::new(&mut orders), day)?;
+    report.tell(name, agreement(&given.as_str(), &day.text))
+}
 
-    pub fn show_sessions(&mut self, heap: Global) -> anyhow::Result<()> {
-        self.show_day(heap, "a run of its own for each call", 2, &RUNS)?;
-        self.show_day(heap, "a million arrivals", 6, &ALL_ARRIVALS)?;
-        self.show_day(
-            heap,
-            "an alter takes the last of a million arrivals",
-            6,
-            &LAST_ARRIVAL,
-        )
-    }
+pub fn show_sessions<R: Print>(report: &mut Report<R>, heap: Global) -> anyhow::Result<()> {
+    show_day(report, heap, "a run of its own for each call", 2, &RUNS)?;
+    show_day(report, heap, "a million arrivals", 6, &ALL_ARRIVALS)?;
+    show_day(
+        report,
+        heap,
+        "an alter takes the last of a million arrivals",
+        6,
+        &LAST_ARRIVAL,
+    )
 }

@@ -1,13 +1,13 @@
 // Files worked over tables, and what comes of them against the texts that they are to give.
 ghost use Rattle.std.specs.Prelude.{◌≡◌, IfOk};
 ghost use Rattle.std.specs.String.{string_bytes};
-ghost use Rattle.tables.specs.Run.{run_capacity as room_of};
-ghost use Rattle.session_file.specs.Answered.{answered};
+ghost use Rattle.tables.specs.Run.{run_capacity};
+ghost use Rattle.session_file.specs.Answered.{file_text};
 ghost use Rattle.session_cases.specs.Cases.{judged};
 
 use crate::case::{Case, Over};
-use crate::verdict::{Verdict, agreement};
 use book::slip::Slip;
+use report::verdict::{Verdict, agreement};
 use rules::order::{Direction, Order};
 use session_file::answer::answer_file;
 use std::alloc::{AllocError, Global};
@@ -25,7 +25,7 @@ pub const NO_SLIP: Slip = Slip::Lapse {
 };
 
 fn over_queue(heap: Global, places: usize, room: usize, file: &[u8]) -> Result<String, AllocError>
-    ensures { IfOk result (λ text. string_bytes text ≡ answered (room_of places) room file.now) }
+    ensures { IfOk result (λ text. string_bytes text ≡ file_text (run_capacity places) room file.now) }
 {
     let mut orders = vec![in heap; no_order(); places]?;
     let run = vec![in heap; NO_SLIP; room]?;
@@ -33,7 +33,7 @@ fn over_queue(heap: Global, places: usize, room: usize, file: &[u8]) -> Result<S
 }
 
 fn over_slots(heap: Global, room: usize, file: &[u8]) -> Result<String, AllocError>
-    ensures { IfOk result (λ text. string_bytes text ≡ answered (room_of 64) room file.now) }
+    ensures { IfOk result (λ text. string_bytes text ≡ file_text (run_capacity 64) room file.now) }
 {
     let run = vec![in heap; NO_SLIP; room]?;
     answer_file(heap, file, Slots::new(heap)?, run)
@@ -43,15 +43,17 @@ fn over_slots(heap: Global, room: usize, file: &[u8]) -> Result<String, AllocErr
 pub fn judge(heap: Global, case: &Case) -> Result<Verdict, AllocError>
     ensures { IfOk result (λ v. v ≡ judged case.now) }
 {
-    match case.over {
-        Over::Queue(places) => {
-            let given = over_queue(heap, places, case.room, case.file)?;
-            Ok(agreement(&given, case.text))
+    let places = match case.over {
+        Over::Queue(places) => places,
+        Over::QueueAndSlots => 64,
+    };
+    let given = over_queue(heap, places, case.room, &case.file)?;
+    let verdict = agreement(&given.into_bytes(), &case.text);
+    match (case.over, verdict) {
+        (Over::QueueAndSlots, Verdict::Agrees) => {
+            let given = over_slots(heap, case.room, &case.file)?;
+            Ok(agreement(&given.into_bytes(), &case.text))
         }
-        Over::QueueAndSlots => {
-            let given = over_queue(heap, 64, case.room, case.file)?;
-            let other = over_slots(heap, case.room, case.file)?;
-            Ok(agreement(&given, case.text).and(agreement(&other, case.text)))
-        }
+        _ => Ok(verdict),
     }
 }

@@ -1,10 +1,14 @@
-// A report on the figures: each is printed with its verdict, and the verdicts are counted.
-ghost use Rattle.std.specs.Prelude.{◌≡◌, OnOk};
-ghost use Rattle.figures.specs.Verdicts.{plain, counted};
+// A report: what is compared is printed with its verdict, and the verdicts are counted.
+#![tactic(auto)]
 
-use crate::verdict::{Tally, Verdict, agreement};
+pub mod verdict;
+
+ghost use Rattle.std.specs.Prelude.{◌≡◌, OnOk};
+ghost use Rattle.report.specs.Verdicts.{plain, counted};
+
 use anyhow::ensure;
 use std::fmt::Display;
+use verdict::{Tally, Verdict, agreement};
 
 #[derive(Drop)]
 pub struct Report<R> {
@@ -47,8 +51,8 @@ impl<R: Print> Report<R> {
         )
     }
 
-    // Prints how often which verdict came, and fails if any figure differs.
-    pub fn close(&self) -> anyhow::Result<()>
+    // Prints how often which verdict came on the things of a kind, and fails if any differs.
+    pub fn close(&self, kind: &str) -> anyhow::Result<()>
         ensures { OnOk result (self.now.tally.differ ≡ 0) }
     {
         let Tally {
@@ -58,9 +62,9 @@ impl<R: Print> Report<R> {
         } = self.tally;
         let all = agree.wrapping_add(known).wrapping_add(differ);
         println!(self.rt;
-            "{all} figures: {agree} agree, {known} with a known difference, {differ} differ"
+            "{all} {kind}: {agree} agree, {known} with a known difference, {differ} differ"
         )?;
-        ensure!(differ == 0, "the rules differ from what is published");
+        ensure!(differ == 0, "of the {kind}, {differ} differ");
         Ok(())
     }
 }

@@ -1,0 +1,16 @@
+-- When two values agree, and how often they do.
+use Rattle.std.specs.Prelude.{ℕ, ◌+◌, ◌%◌, ◌^◌, Bool, cond}
+use Rattle.report.specs.declared.verdict.Tally.{Tally}
+use Rattle.report.specs.declared.verdict.Verdict.{Verdict}
+use Rattle.report.specs.declared.verdict.Verdict.TheVariants.{Agrees, KnownDifference, Differs}
+
+abbrev pub plain : Bool → Verdict
+plain same = cond same Agrees Differs
+
+abbrev one_more : ℕ → ℕ
+one_more n = (n + 1) % 2 ^ 64
+
+abbrev pub counted : Verdict → Tally → Tally
+counted Agrees t = record { agree = one_more t.agree; known = t.known; differ = t.differ }
+counted KnownDifference t = record { agree = t.agree; known = one_more t.known; differ = t.differ }
+counted Differs t = record { agree = t.agree; known = t.known; differ = one_more t.differ }
