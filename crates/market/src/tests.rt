@@ -1,5 +1,5 @@
 use crate::session::Session;
-use book::answer::{Answer, Told};
+use book::call::NewOrder;
 use book::slip::Slip;
 use rules::order::{Direction, Order};
 use rules::terms::Terms;
@@ -15,35 +15,33 @@ fn lapse() -> Slip {
     }
 }
 
+fn new_order(member: u32, direction: Direction, limit: Option<u32>, volume: u32) -> NewOrder {
+    NewOrder {
+        member,
+        direction,
+        limit,
+        volume,
+    }
+}
+
 // A day with an opening fixing, a trade in Open and a lapse.
 fn work_day<T: Table>(rt: &impl Abort, session: &mut Session<T>) -> Result<(), Fail> {
     let mut run = [lapse(); 16];
-    assert!(rt;
-        session
-            .enter(1, Direction::Buy, Some(1050), 40, &mut run)
-            .is_ok()
-    );
-    assert!(rt;
-        session
-            .enter(2, Direction::Sell, Some(990), 30, &mut run)
-            .is_ok()
-    );
-    match session.enter(3, Direction::Buy, Some(1400), 10, &mut run) {
+    let bid = new_order(1, Direction::Buy, Some(1050), 40);
+    assert!(rt; session.enter(bid, &mut run).is_ok());
+    let ask = new_order(2, Direction::Sell, Some(990), 30);
+    assert!(rt; session.enter(ask, &mut run).is_ok());
+    let outside = new_order(3, Direction::Buy, Some(1400), 10);
+    match session.enter(outside, &mut run) {
         Err(refusal) => assert_eq!(rt; refusal.number(), 6),
         Ok(_) => return Err(Fail::new("a price outside the band")),
     }
-    let Ok(
-        Answer {
-            told: Told::Advanced { price, traded, .. },
-            slips,
-        },
-    ) = session.advance(&mut run)
-    else {
+    let Ok(opening) = session.advance(&mut run) else {
         return Err(Fail::new("opening"));
     };
-    assert_eq!(rt; price, Some(1000));
-    assert_eq!(rt; traded, 30);
-    assert_eq!(rt; slips, 1);
+    assert_eq!(rt; opening.told.price, Some(1000));
+    assert_eq!(rt; opening.told.traded, 30);
+    assert_eq!(rt; opening.slips, 1);
     assert!(rt;
         matches!(
             run[0],
@@ -55,23 +53,14 @@ fn work_day<T: Table>(rt: &impl Abort, session: &mut Session<T>) -> Result<(), F
             }
         )
     );
-    let Ok(
-        Answer {
-            told: Told::Entered {
-                number,
-                traded,
-                held,
-            },
-            slips,
-        },
-    ) = session.enter(4, Direction::Sell, None, 20, &mut run)
-    else {
+    let market = new_order(4, Direction::Sell, None, 20);
+    let Ok(sale) = session.enter(market, &mut run) else {
         return Err(Fail::new("market"));
     };
-    assert_eq!(rt; number, 3);
-    assert_eq!(rt; traded, 10);
-    assert_eq!(rt; held, 0);
-    assert_eq!(rt; slips, 2);
+    assert_eq!(rt; sale.told.number, 3);
+    assert_eq!(rt; sale.told.traded, 10);
+    assert_eq!(rt; sale.told.held, 0);
+    assert_eq!(rt; sale.slips, 2);
     assert!(rt;
         matches!(
             run[0],
