@@ -21,7 +21,7 @@ use Rattle.book.specs.Counts.{with_count}
 use Rattle.book.specs.Ledger.{Ledger, Live, put, balance, opening, renews, renew, keep, rewritten, alter_account, feed, post_all, Along, traded}
 use Rattle.book.specs.Stages.{is_open}
 use Rattle.book.specs.Rows.{beyond_band, order_named}
-use Rattle.book.specs.Calls.{limit_price, order_of, takes_new_arrival, alter_tally, altered_order, Outcome, refused_by, done, outcome_of, withdraw, enter_order, enter, alter, Reply, enter_reply, alter_reply, Execution, made_by_entry, entry_trading, after_sweep, entry_resting, entry_of, trades_again, with_left, with_rest, Sweep, sweep}
+use Rattle.book.specs.Calls.{limit_price, order_of, takes_new_arrival, alter_tally, altered_order, Outcome, refused_by, done, outcome_of, withdraw, enter_order, enter, alter, Telling, enter_reply, alter_reply, Execution, made_by_entry, entry_trading, after_sweep, entry_resting, entry_of, trades_again, with_left, with_rest, Sweep, sweep}
 use Rattle.book.specs.Law.{Mode, continuous, mode, entry_mode, price_of, feed_of, due_answer, SlipRight, InTurn, IsMarket, FixingRight, Entering, IsSettled, Shown, Upheld}
 use Rattle.book.specs.declared.answer.Told.TheVariants.{Withdrawn}
 use Rattle.book.proofs.Ranks.{InRank, without_in, insert_in, in_insert, none_numbered}
@@ -447,13 +447,13 @@ queued_fair m M tab e own opp ac lo la gap f g taken room opp-fits =
 -- A call by which an order enters ------------------------------------------------------------------------------------------------
 
 -- a reply is the answer that is due
-abbrev pub Due : Ledger → Call → Ledger → ℕ → Reply → Type 0
+abbrev pub Due : Ledger → Call → Ledger → ℕ → Telling → Type 0
 Due L c M n reply =
     (m : Mode) (slips : List Slip) (sum held : ℕ) → sum ≡ traded slips → held ≡ balance ((post_all slips M).accounts n) →
     with_count (reply sum held) slips ≡ due_answer c m L slips (post_all slips M)
 
 -- of the call c, after which M is the ledger
-module _ (t : Terms) (L : Ledger) (c : Call) (M : Ledger) (n : ℕ) (reply : Reply) (owed : Due L c M n reply)
+module _ (t : Terms) (L : Ledger) (c : Call) (M : Ledger) (n : ℕ) (reply : Telling) (owed : Due L c M n reply)
     (same : M.stage ≡ L.stage) (opened : AllOpened t M.tally M.accounts) where
   entry_kept :
       (m : Mode) (x : Execution) → mode L.stage c (price_of (with_count (reply x.traded x.held) x.slips)) ≡ m →

@@ -9,7 +9,7 @@ use Rattle.rules.specs.declared.order.Direction.TheVariants.{Buy, Sell}
 use Rattle.rules.specs.declared.order.Order.{Order}
 use Rattle.rules.specs.declared.terms.Terms.{Terms}
 use Rattle.tables.specs.Listing.{with_volume}
-use Rattle.tables.specs.Meaning.{Contents, book_of, holding, listed, with_side, added, removed}
+use Rattle.tables.specs.Meaning.{Contents, book_of, holding, listed, with_listed, added, removed}
 use Rattle.book.specs.declared.answer.Answer.{Answer}
 use Rattle.book.specs.declared.answer.Told.{Told}
 use Rattle.book.specs.declared.answer.Told.TheVariants.{Entered, Altered, Withdrawn, Advanced}
@@ -106,7 +106,7 @@ sweep d n p (o ∷ os) v =
 
 -- the table once the other side of d has traded
 abbrev pub with_rest : Direction → List Order → Contents → Contents
-with_rest d rest t = holding t (with_side (opposite d) rest t.book)
+with_rest d rest t = with_listed (opposite d) rest t
 
 -- what is left of an entering order is added
 abbrev pub with_left : Order → ℕ → Contents → Contents
@@ -164,11 +164,11 @@ pub record Made : Type 0 where
   pub slips : List Slip
 
 -- what is told, from the volumes traded and held
-abbrev pub Reply : Type 0
-Reply = ℕ → ℕ → Told
+abbrev pub Telling : Type 0
+Telling = ℕ → ℕ → Told
 
 -- what a call makes by which an order entered, where so many arrivals are given after it
-abbrev pub made_by_entry : Day → ℕ → Reply → Execution → Made
+abbrev pub made_by_entry : Day → ℕ → Telling → Execution → Made
 made_by_entry day tally reply a =
     record {
       day = record day { tally = tally; table = a.table };
@@ -263,10 +263,10 @@ strike t day = strike_at day (fixing_price t day.table.book) (fixing_trades t da
 -- The calls ------------------------------------------------------------------------------------------------------------
 
 -- what an enter and an alter tell
-abbrev pub enter_reply : ℕ → Reply
+abbrev pub enter_reply : ℕ → Telling
 enter_reply n traded held = Entered (record { number = n; traded = traded; held = held })
 
-abbrev pub alter_reply : Reply
+abbrev pub alter_reply : Telling
 alter_reply traded held = Altered (record { traded = traded; held = held })
 
 -- an order enters, with the next arrival: in Open it trades first, and what is left of a limit order stands; in another

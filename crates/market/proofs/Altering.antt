@@ -11,11 +11,10 @@ use Rattle.rules.specs.declared.order.Direction.{Direction}
 use Rattle.rules.specs.declared.order.Direction.TheVariants.{Buy, Sell}
 use Rattle.rules.specs.declared.order.Order.{Order}
 use Rattle.tables.specs.Listing.{numbered, times, insert, with_volume, without, in_rank}
-use Rattle.tables.specs.Meaning.{Contents, Sound, listed, lookup, book_of, held, takes, put_in, added, removed, volume_set}
+use Rattle.tables.specs.Meaning.{Contents, Sound, listed, with_listed, lookup, book_of, held, takes, put_in, added, removed, volume_set}
 use Rattle.tables.proofs.Keeps.{held_none}
 use Rattle.tables.proofs.Numbers.{without_at, set_volume_at, times_at}
 use Rattle.tables.proofs.Ranking.{ranking, Ranking}
-use Rattle.market.specs.Fills.{with_listed}
 use Rattle.market.proofs.Taking.{get_is, listed_side, is_held, removed_listed, set_listed, stands, few}
 use Rattle.market.proofs.Sweeping.{with_same}
 

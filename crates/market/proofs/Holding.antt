@@ -8,7 +8,7 @@ use Rattle.rules.specs.declared.order.Direction.TheVariants.{Buy, Sell}
 use Rattle.rules.specs.declared.order.Order.{Order}
 use Rattle.rules.specs.declared.terms.Terms.{Terms}
 use Rattle.tables.specs.Listing.{numbered, times, insert, with_volume, without}
-use Rattle.tables.specs.Meaning.{Contents, Sound, listed, holding, book_of, each_side, lookup, held, takes, put_in, added, removed}
+use Rattle.tables.specs.Meaning.{Contents, Sound, listed, with_listed, holding, book_of, each_side, lookup, held, takes, put_in, added, removed}
 use Rattle.tables.proofs.Keeps.{held_none}
 use Rattle.tables.proofs.Numbers.{counted-insert}
 use Rattle.tables.proofs.Ranking.{length-insert}
@@ -22,7 +22,6 @@ use Rattle.book.specs.Calls.{Made, order_of, alter, altered_order, alter_tally, 
 use Rattle.book.specs.Model.{day_after}
 use Rattle.book.proofs.Gate.{of_step}
 use Rattle.book.proofs.Sided.{length-without}
-use Rattle.market.specs.Fills.{with_listed}
 use Rattle.market.specs.Kept.{Kept}
 use Rattle.market.proofs.Altering.{Held, looked_up}
 use Rattle.market.proofs.Keeping.{Part, part_same, sweep_part, match_part, limits_part, without_part, part_trans}

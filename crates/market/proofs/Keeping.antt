@@ -7,11 +7,10 @@ use Rattle.rules.specs.declared.order.Direction.{Direction}
 use Rattle.rules.specs.declared.order.Direction.TheVariants.{Buy, Sell}
 use Rattle.rules.specs.declared.order.Order.{Order}
 use Rattle.tables.specs.Listing.{numbered, times, with_volume, without}
-use Rattle.tables.specs.Meaning.{Contents, listed, book_of, held, takes}
+use Rattle.tables.specs.Meaning.{Contents, listed, with_listed, book_of, held, takes}
 use Rattle.tables.proofs.Keeps.{free, held_none}
 use Rattle.tables.proofs.Numbers.{times-without}
 use Rattle.book.specs.Calls.{Sweep, sweep, Pairing, pair, match_at, with_first_less, limit_orders}
-use Rattle.market.specs.Fills.{with_listed}
 
 pub record Part (xs ys : List Order) : Type 0 where
   pub shorter : length xs ≤ length ys

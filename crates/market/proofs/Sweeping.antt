@@ -7,10 +7,10 @@ use Rattle.rules.specs.declared.order.Direction.{Direction}
 use Rattle.rules.specs.declared.order.Direction.TheVariants.{Buy, Sell}
 use Rattle.rules.specs.declared.order.Order.{Order}
 use Rattle.tables.specs.Listing.{with_volume}
-use Rattle.tables.specs.Meaning.{Contents, listed}
+use Rattle.tables.specs.Meaning.{Contents, listed, with_listed}
 use Rattle.book.specs.declared.slip.Slip.{Slip}
 use Rattle.book.specs.Calls.{Sweep, sweep, slip_then as slipped, trade}
-use Rattle.market.specs.Fills.{first_taken, with_listed}
+use Rattle.market.specs.Fills.{first_taken}
 use Rattle.market.proofs.Taking.{first_list}
 
 pub with_same : (d : Direction) (c : Contents) → with_listed d (listed d c) c ≡ c

@@ -8,12 +8,12 @@ use Rattle.rules.specs.declared.order.Direction.{Direction}
 use Rattle.rules.specs.declared.order.Direction.TheVariants.{Buy, Sell}
 use Rattle.rules.specs.declared.order.Order.{Order}
 use Rattle.tables.specs.Listing.{times, with_volume, without, set_volume, on_side as all_on}
-use Rattle.tables.specs.Meaning.{Contents, Sound, listed, holding, held, removed, volume_set, sets_volume}
+use Rattle.tables.specs.Meaning.{Contents, Sound, listed, with_listed, holding, held, removed, volume_set, sets_volume}
 use Rattle.tables.specs.Stored.{Stands}
 use Rattle.tables.proofs.Keeps.{held_on, removed_at, volume_set_at}
 use Rattle.tables.proofs.InOrder.{side_apart}
 use Rattle.tables.proofs.Numbers.{without_at, set_volume_at}
-use Rattle.market.specs.Fills.{first_taken, first_taken_on, with_listed}
+use Rattle.market.specs.Fills.{first_taken, first_taken_on}
 
 -- a read that finds
 pub get_below : (xs : List Order) (i : ℕ) (o : Order) → slice_get xs i ≡ Some o → i < length xs

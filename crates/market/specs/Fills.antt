@@ -2,7 +2,7 @@
 use Rattle.std.specs.Prelude.{ℕ, List, [], ◌∷◌, length}
 use Rattle.rules.specs.declared.order.Direction.{Direction}
 use Rattle.rules.specs.declared.order.Order.{Order}
-use Rattle.tables.specs.Meaning.{Contents, listed, holding, with_side}
+use Rattle.tables.specs.Meaning.{Contents, listed, with_listed}
 use Rattle.book.specs.Calls.{Execution, with_first_less}
 use Rattle.market.specs.declared.entries.Fill.{Fill}
 
@@ -11,10 +11,7 @@ abbrev pub first_taken : ℕ → List Order → List Order
 first_taken v [] = []
 first_taken v (o ∷ os) = with_first_less v o os
 
--- the contents with another list for one side
-abbrev pub with_listed : Direction → List Order → Contents → Contents
-with_listed d os c = holding c (with_side d os c.book)
-
+-- the same of one side of a table
 abbrev pub first_taken_on : Direction → ℕ → Contents → Contents
 first_taken_on d v c = with_listed d (first_taken v (listed d c)) c
 

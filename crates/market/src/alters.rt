@@ -14,7 +14,7 @@ ghost use Rattle.market.specs.Fills.{fill_of};
 ghost use Rattle.market.specs.Outcome.{told_as, answer_of, run_after, written_into};
 
 use crate::day::Day;
-use crate::entries::{Fill, let_in};
+use crate::entries::{Fill, enter_order};
 use book::answer::{Altered, Answer, Told, Withdrawn};
 use book::call::{Alteration, Withdrawal};
 use book::slip::Slip;
@@ -41,7 +41,7 @@ fn enter_again<T: Table>(table: &mut T, order: Order, trades: bool, run: &mut [S
     let Ok(()) = table.remove(order.number) else {
         unreachable!()
     };
-    let_in(table, order, trades, run)
+    enter_order(table, order, trades, run)
 }
 
 // An order of the same price and no greater volume keeps its place.

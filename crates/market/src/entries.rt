@@ -63,7 +63,7 @@ fn held_left(order: &Order, left: u32) -> u32
 
 // What is left of an order after its sweep: a limit order stands, a market order lapses. The slips
 // written.
-fn settle<T: Table>(table: &mut T, order: &Order, left: u32, run: &mut [Slip]) -> usize
+fn place_left<T: Table>(table: &mut T, order: &Order, left: u32, run: &mut [Slip]) -> usize
     requires room { takes (T.Table.contents table.old) order.now ≡ true }
     requires place { 0 < length run.old }
     ensures written { result ≡ length (lapse_left order.now left) }
@@ -91,7 +91,7 @@ fn settle<T: Table>(table: &mut T, order: &Order, left: u32, run: &mut [Slip]) -
 }
 
 // An order of the side S enters in Open.
-fn arrive_on<S: Side, T: Table>(table: &mut T, order: Order, run: &mut [Slip]) -> Fill
+fn enter_trading_on<S: Side, T: Table>(table: &mut T, order: Order, run: &mut [Slip]) -> Fill
     requires side { order.direction ≡ S.Quotes.way }
     requires room { takes (T.Table.contents table.old) order ≡ true }
     requires long { length (listed (opposite order.direction) (T.Table.contents table.old))
@@ -103,7 +103,7 @@ fn arrive_on<S: Side, T: Table>(table: &mut T, order: Order, run: &mut [Slip]) -
         ≡ written_into run.old (entry_trading order (T.Table.contents table.old)).slips }
 {
     let swept = sweep::<S, T>(table, &order, run);
-    let lapsed = settle(table, &order, swept.left, &mut run[swept.written..]);
+    let lapsed = place_left(table, &order, swept.left, &mut run[swept.written..]);
     Fill {
         traded: swept.traded,
         held: held_left(&order, swept.left),
@@ -112,7 +112,7 @@ fn arrive_on<S: Side, T: Table>(table: &mut T, order: Order, run: &mut [Slip]) -
 }
 
 // Here the side of an order goes from a value to a type.
-pub fn arrive<T: Table>(table: &mut T, order: Order, run: &mut [Slip]) -> Fill
+pub fn enter_trading<T: Table>(table: &mut T, order: Order, run: &mut [Slip]) -> Fill
     requires room { takes (T.Table.contents table.old) order ≡ true }
     requires long { length (listed (opposite order.direction) (T.Table.contents table.old))
         < length run.old }
@@ -123,13 +123,13 @@ pub fn arrive<T: Table>(table: &mut T, order: Order, run: &mut [Slip]) -> Fill
         ≡ written_into run.old (entry_trading order (T.Table.contents table.old)).slips }
 {
     match order.direction {
-        Direction::Buy => arrive_on::<Buys, T>(table, order, run),
-        Direction::Sell => arrive_on::<Sells, T>(table, order, run),
+        Direction::Buy => enter_trading_on::<Buys, T>(table, order, run),
+        Direction::Sell => enter_trading_on::<Sells, T>(table, order, run),
     }
 }
 
 // An order enters: it trades first, if it is to.
-pub fn let_in<T: Table>(table: &mut T, order: Order, trades: bool, run: &mut [Slip]) -> Fill
+pub fn enter_order<T: Table>(table: &mut T, order: Order, trades: bool, run: &mut [Slip]) -> Fill
     requires room { takes (T.Table.contents table.old) order ≡ true }
     requires long { trades ≡ true
         → length (listed (opposite order.direction) (T.Table.contents table.old))
@@ -141,7 +141,7 @@ pub fn let_in<T: Table>(table: &mut T, order: Order, trades: bool, run: &mut [Sl
         ≡ written_into run.old (entry_of trades order (T.Table.contents table.old)).slips }
 {
     if trades {
-        return arrive(table, order, run);
+        return enter_trading(table, order, run);
     }
     let Ok(()) = table.add(order) else {
         unreachable!()
@@ -170,7 +170,7 @@ impl<T: Table> Day<T> {
         self.check_enter(terms, new, run.len())?;
         self.tally += 1;
         let order = order_of(terms, self.tally, new);
-        let fill = let_in(&mut self.table, order, self.stage.is_open(), run);
+        let fill = enter_order(&mut self.table, order, self.stage.is_open(), run);
         let told = Entered {
             number: order.number,
             traded: fill.traded,

@@ -2,10 +2,9 @@
 ghost use Rattle.std.specs.Prelude.{◌≡◌, ◌≤◌, ◌++◌, Bool, Some, length};
 ghost use Rattle.rules.specs.declared.order.Order.{Order};
 ghost use Rattle.book.specs.declared.slip.Slip.{Slip};
-ghost use Rattle.tables.specs.Meaning.{listed, holding, book_of, each_side};
+ghost use Rattle.tables.specs.Meaning.{listed, with_listed, holding, book_of, each_side};
 ghost use Rattle.book.specs.Rows.{order_count};
 ghost use Rattle.book.specs.Calls.{fixing_price, fixing_trades, match_at, turnover, going_slips, staying_orders, lapse_of, lapses, limit_orders, strike_slips, book_after_strike};
-ghost use Rattle.market.specs.Fills.{with_listed};
 ghost use Rattle.market.specs.Outcome.{written_into};
 
 use crate::curve::TableCurve;

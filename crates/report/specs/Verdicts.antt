@@ -10,7 +10,7 @@ plain same = cond same Agrees Differs
 abbrev one_more : ℕ → ℕ
 one_more n = (n + 1) % 2 ^ 64
 
-abbrev pub counted : Verdict → Tally → Tally
-counted Agrees t = record { agree = one_more t.agree; known = t.known; differ = t.differ }
-counted KnownDifference t = record { agree = t.agree; known = one_more t.known; differ = t.differ }
-counted Differs t = record { agree = t.agree; known = t.known; differ = one_more t.differ }
+abbrev pub tally_after : Verdict → Tally → Tally
+tally_after Agrees t = record { agree = one_more t.agree; known = t.known; differ = t.differ }
+tally_after KnownDifference t = record { agree = t.agree; known = one_more t.known; differ = t.differ }
+tally_after Differs t = record { agree = t.agree; known = t.known; differ = one_more t.differ }

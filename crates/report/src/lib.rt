@@ -4,7 +4,7 @@
 pub mod verdict;
 
 ghost use Rattle.std.specs.Prelude.{◌≡◌, OnOk};
-ghost use Rattle.report.specs.Verdicts.{plain, counted};
+ghost use Rattle.report.specs.Verdicts.{plain, tally_after};
 
 use anyhow::ensure;
 use std::fmt::Display;
@@ -28,7 +28,7 @@ impl<R: Print> Report<R> {
 
     // Counts a verdict, and prints it after what it is on.
     pub fn tell(&mut self, what: impl Display + Drop, v: Verdict) -> anyhow::Result<()>
-        ensures { self.new.tally ≡ counted v self.old.tally }
+        ensures { self.new.tally ≡ tally_after v self.old.tally }
     {
         self.tally.count(v);
         println!(self.rt; "{what}: {v}")?;
@@ -42,7 +42,7 @@ impl<R: Print> Report<R> {
         given: &T,
         published: &T,
     ) -> anyhow::Result<()>
-        ensures { self.new.tally ≡ counted (plain (T.eq given.now published.now)) self.old.tally }
+        ensures { self.new.tally ≡ tally_after (plain (T.eq given.now published.now)) self.old.tally }
     {
         let v = agreement(given, published);
         self.tell(

@@ -1,6 +1,6 @@
 // Whether what is given is what is wanted, and how often it is.
 ghost use Rattle.std.specs.Prelude.{◌≡◌};
-ghost use Rattle.report.specs.Verdicts.{plain, counted};
+ghost use Rattle.report.specs.Verdicts.{plain, tally_after};
 
 use std::fmt;
 
@@ -40,7 +40,7 @@ pub struct Tally {
 
 impl Tally {
     pub fn count(&mut self, v: Verdict)
-        ensures { self.new ≡ counted v self.old }
+        ensures { self.new ≡ tally_after v self.old }
     {
         match v {
             Verdict::Agrees => self.agree = self.agree.wrapping_add(1),

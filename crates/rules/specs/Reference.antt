@@ -2,7 +2,7 @@
 use Rattle.std.specs.Prelude.{ℕ, cond, Some, None, Ok, Err, Option, Result}
 use Rattle.std.specs.Option.{unwrap_or}
 use Rattle.rules.specs.Refusal.{number}
-use Rattle.rules.specs.Terms.{Outcome, refused, made, terms_of}
+use Rattle.rules.specs.Terms.{TermsAnswer, refused, made, terms_of}
 use Rattle.rules.specs.declared.reference.DayRecord.{DayRecord}
 use Rattle.rules.specs.declared.reference.EndedDay.{EndedDay}
 use Rattle.rules.specs.declared.reference.NoTerms.{NoTerms}
@@ -27,7 +27,7 @@ abbrev pub drawn : Result Terms NoTerms → Drawn
 drawn (Ok t) = terms t.reference t.block t.lo t.hi
 drawn (Err e) = handed_back (number e.refusal) e.day
 
-abbrev drawn_as : EndedDay → Outcome → Drawn
+abbrev drawn_as : EndedDay → TermsAnswer → Drawn
 drawn_as day (refused n) = handed_back n day
 drawn_as day (made r b lo hi) = terms r b lo hi
 

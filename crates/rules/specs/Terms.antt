@@ -5,15 +5,15 @@ use Rattle.rules.specs.Refusal.{number}
 use Rattle.rules.specs.declared.terms.Terms.{Terms}
 use Rattle.rules.specs.declared.refusal.Refusal.{Refusal}
 
-pub data Outcome : Type 0 where
-  refused : ℕ → Outcome
+pub data TermsAnswer : Type 0 where
+  refused : ℕ → TermsAnswer
   -- reference, block, lowest and highest price
-  made : ℕ → ℕ → ℕ → ℕ → Outcome
+  made : ℕ → ℕ → ℕ → ℕ → TermsAnswer
 
-abbrev pub answer : Result Terms Refusal → Outcome
+abbrev pub answer : Result Terms Refusal → TermsAnswer
 answer (Ok t) = made t.reference t.block t.lo t.hi
 answer (Err e) = refused (number e)
 
 -- the reference is looked at first
-abbrev pub terms_of : ℕ → ℕ → Outcome
+abbrev pub terms_of : ℕ → ℕ → TermsAnswer
 terms_of r b = cond (within 1 1000000 r) (cond (within 1 10000 b) (made r b (lowest r) (highest r)) (refused 2)) (refused 1)

@@ -4,7 +4,7 @@ use Rattle.std.specs.Str.{bytes_eq}
 use Rattle.tables.specs.Meaning.{Capacity}
 use Rattle.tables.specs.Run.{run_capacity}
 use Rattle.session_file.specs.Answered.{file_text}
-use Rattle.report.specs.Verdicts.{plain, counted}
+use Rattle.report.specs.Verdicts.{plain, tally_after}
 use Rattle.session_cases.specs.declared.case.Case.{Case}
 use Rattle.session_cases.specs.declared.case.Over.{Over}
 use Rattle.session_cases.specs.declared.case.Over.TheVariants.{Queue, QueueAndSlots}
@@ -21,5 +21,5 @@ abbrev pub judged : Case → Verdict
 judged c = plain (bytes_eq (file_text (capacity_of c.over) c.room c.file.items) c.text.items)
 
 -- with the verdict on each case counted
-abbrev pub tallied : Tally → List Case → Tally
-tallied = fold (λ t c. counted (judged c) t)
+abbrev pub tally_after_all : Tally → List Case → Tally
+tally_after_all = fold (λ t c. tally_after (judged c) t)

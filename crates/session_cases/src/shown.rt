@@ -1,7 +1,7 @@
 // Each case is printed with its verdict, and the verdicts are counted.
 ghost use Rattle.std.specs.Prelude.{◌≡◌, OnOk};
-ghost use Rattle.report.specs.Verdicts.{counted};
-ghost use Rattle.session_cases.specs.Cases.{judged, tallied};
+ghost use Rattle.report.specs.Verdicts.{tally_after};
+ghost use Rattle.session_cases.specs.Cases.{judged, tally_after_all};
 
 use crate::case::Case;
 use crate::worked::judge;
@@ -9,7 +9,7 @@ use report::Report;
 use std::alloc::Global;
 
 fn show<R: Print>(report: &mut Report<R>, heap: Global, case: &Case) -> anyhow::Result<()>
-    ensures { OnOk result (report.new.tally ≡ counted (judged case.now) report.old.tally) }
+    ensures { OnOk result (report.new.tally ≡ tally_after (judged case.now) report.old.tally) }
 {
     let v = judge(heap, case)?;
     report.tell(case.name.as_str(), v)
@@ -20,7 +20,7 @@ pub fn show_all<R: Print>(
     heap: Global,
     cases: &[Case],
 ) -> anyhow::Result<()>
-    ensures { OnOk result (report.new.tally ≡ tallied report.old.tally cases.now) }
+    ensures { OnOk result (report.new.tally ≡ tally_after_all report.old.tally cases.now) }
 {
     for case in cases {
         show(report, heap, case)?;

@@ -26,27 +26,27 @@ terms_same u t r b l h =
       high = is_prop→PathP (λ i. r i ≤ h i) (λ i. hlevel (le_prop, ℕ_set)) u.high t.high i;
     }
 
-abbrev reference_of : terms.Outcome → ℕ
+abbrev reference_of : terms.TermsAnswer → ℕ
 reference_of (terms.refused n) = n
 reference_of (terms.made r b lo hi) = r
 
-abbrev block_of : terms.Outcome → ℕ
+abbrev block_of : terms.TermsAnswer → ℕ
 block_of (terms.refused n) = 0
 block_of (terms.made r b lo hi) = b
 
-abbrev low_of : terms.Outcome → ℕ
+abbrev low_of : terms.TermsAnswer → ℕ
 low_of (terms.refused n) = 0
 low_of (terms.made r b lo hi) = lo
 
-abbrev high_of : terms.Outcome → ℕ
+abbrev high_of : terms.TermsAnswer → ℕ
 high_of (terms.refused n) = 0
 high_of (terms.made r b lo hi) = hi
 
-abbrev is_made : terms.Outcome → Bool
+abbrev is_made : terms.TermsAnswer → Bool
 is_made (terms.refused n) = false
 is_made (terms.made r b lo hi) = true
 
-unmade : (x y : terms.Outcome) → x ≡ y → is_made x ≡ true → is_made y ≡ false → ⊥
+unmade : (x y : terms.TermsAnswer) → x ≡ y → is_made x ≡ true → is_made y ≡ false → ⊥
 unmade x y e p q = let z : true ≡ false = sym p ∙ ap is_made e ∙ q in cc
 
 module _ (r b : ℕ) where

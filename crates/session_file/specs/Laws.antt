@@ -28,7 +28,7 @@ abbrev pub CallsRead : Type 0
 CallsRead = (call : Call) (ahead behind : Ahead) → (call_line ahead ≡ Ok (call, behind)) ↔ Begins (Line call) ahead behind
 
 -- the figures of terms, or the number of their refusal
-abbrev pub figures : Result Terms ℕ → terms.Outcome
+abbrev pub figures : Result Terms ℕ → terms.TermsAnswer
 figures (Ok t) = terms.made t.reference t.block t.lo t.hi
 figures (Err n) = terms.refused n
 

@@ -4,7 +4,7 @@ use Rattle.std.specs.List.{AllByRecursion, slice_get, list_all, find}
 use Rattle.std.proofs.lemmas.Bool.{and_parts, cond-true, cond_both, both_ways, eq-eqb}
 use Rattle.std.proofs.lemmas.Bool.Decides.{nat_tests}
 use Rattle.rules.specs.declared.order.Order.{Order}
-use Rattle.tables.specs.Listing.{counted, numbered, times, Distinct, ahead, insert, arranged, without, volume_at, set_volume, in_rank}
+use Rattle.tables.specs.Listing.{count_where, numbered, times, Distinct, ahead, insert, arranged, without, volume_at, set_volume, in_rank}
 use Rattle.tables.proofs.Numbers.{counted-insert}
 use Rattle.tables.proofs.Ranking.{Ranking, all_behind, in_rank-insert, length-insert}
 
@@ -26,7 +26,7 @@ arranged_same lt (x ∷ xs) s =
     ap (insert lt x) (arranged_same lt xs p.1) ∙ first_of lt x xs p.0
 
 module _ {lt : Order → Order → Bool} (r : Ranking lt) where
-  pub counted-arranged : (test : Order → Bool) (xs : List Order) → counted test (arranged lt xs) ≡ counted test xs
+  pub counted-arranged : (test : Order → Bool) (xs : List Order) → count_where test (arranged lt xs) ≡ count_where test xs
   counted-arranged test [] = refl
   counted-arranged test (x ∷ xs) = counted-insert test lt x (arranged lt xs) ∙ ap (λ m. cond (test x) 1 0 + m) (counted-arranged test xs)
 

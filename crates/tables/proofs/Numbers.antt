@@ -4,7 +4,7 @@ use Rattle.std.specs.List.{remove, slice_get, find}
 use Rattle.std.proofs.lemmas.Bool.{both_ways, cases_lt}
 use Rattle.std.proofs.lemmas.Bool.Decides.{nat_tests}
 use Rattle.rules.specs.declared.order.Order.{Order}
-use Rattle.tables.specs.Listing.{counted, numbered, times, insert, without, with_volume, set_volume}
+use Rattle.tables.specs.Listing.{count_where, numbered, times, insert, without, with_volume, set_volume}
 use Rattle.tables.specs.Stored.{Stands}
 
 -- a number that is not held
@@ -76,11 +76,11 @@ module _ (n : ℕ) where
       let ih = set_volume_at v xs i d below (omega arith) in
       grind (arith, nat_tests)
 
-pub counted-insert : (test : Order → Bool) (lt : Order → Order → Bool) (o : Order) (xs : List Order) → counted test (insert lt o xs) ≡ cond (test o) 1 0 + counted test xs
+pub counted-insert : (test : Order → Bool) (lt : Order → Order → Bool) (o : Order) (xs : List Order) → count_where test (insert lt o xs) ≡ cond (test o) 1 0 + count_where test xs
 counted-insert test lt o [] = refl
 counted-insert test lt o (x ∷ xs) = let ih = counted-insert test lt o xs in grind arith
 
-pub length-kept : (test : Order → Bool) (xs : List Order) → length (filter test xs) ≡ counted test xs
+pub length-kept : (test : Order → Bool) (xs : List Order) → length (filter test xs) ≡ count_where test xs
 length-kept test [] = refl
 length-kept test (x ∷ xs) = let ih = length-kept test xs in grind arith
 

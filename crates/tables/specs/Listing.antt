@@ -9,13 +9,13 @@ abbrev pub numbered : ℕ → Order → Bool
 numbered n o = o.number == n
 
 -- how many pass the test
-abbrev pub counted : (Order → Bool) → List Order → ℕ
-counted test [] = 0
-counted test (o ∷ os) = cond (test o) 1 0 + counted test os
+abbrev pub count_where : (Order → Bool) → List Order → ℕ
+count_where test [] = 0
+count_where test (o ∷ os) = cond (test o) 1 0 + count_where test os
 
 -- how often the number n is held
 abbrev pub times : ℕ → List Order → ℕ
-times n os = counted (numbered n) os
+times n os = count_where (numbered n) os
 
 -- no number is held twice
 abbrev pub Distinct : List Order → Type 0
@@ -23,7 +23,7 @@ Distinct os = (n : ℕ) → times n os ≤ 1
 
 -- how many rank before o
 abbrev pub ahead : (Order → Order → Bool) → Order → List Order → ℕ
-ahead lt o os = counted (λ x. lt x o) os
+ahead lt o os = count_where (λ x. lt x o) os
 
 -- o at its rank: before the first that it ranks before
 abbrev pub insert : (Order → Order → Bool) → Order → List Order → List Order

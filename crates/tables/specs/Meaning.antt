@@ -68,6 +68,10 @@ abbrev pub with_side : Direction → List Order → Book → Book
 with_side Buy os b = book_of os b.sells
 with_side Sell os b = book_of b.buys os
 
+-- the contents with another list for one side
+abbrev pub with_listed : Direction → List Order → Contents → Contents
+with_listed d os t = holding t (with_side d os t.book)
+
 -- the book with each list changed
 abbrev pub each_side : (List Order → List Order) → Book → Book
 each_side f b = book_of (f b.buys) (f b.sells)

@@ -7,8 +7,8 @@ use Rattle.book.specs.Calls.{entry_of}
 use Rattle.market.proofs.Altering.{Held, looked_up, gone, takes_again, listed_own}
 use Rattle.market.proofs.alters.enter_again.Goals as goal
 
-pub let_in-requires-clause-room : goal.let_in-requires-clause-room
-let_in-requires-clause-room g c =
+pub enter_order-requires-clause-room : goal.enter_order-requires-clause-room
+enter_order-requires-clause-room g c =
     let e = c.args.order in
     let t = g.T.Table.contents c.args.table.now in
     let s = g.met.T.Table.sound c.args.table.now in
@@ -17,8 +17,8 @@ let_in-requires-clause-room g c =
     let after = c.remove.ensures.after ∙ gone t s o e h.number c.requires.stands.2 h.rank h.there in
     subst (λ z. takes z e ≡ true) (sym after) (takes_again t s o e h.number c.requires.stands.2 h.rank h.there)
 
-pub let_in-requires-clause-long : goal.let_in-requires-clause-long
-let_in-requires-clause-long g c = λ trades.
+pub enter_order-requires-clause-long : goal.enter_order-requires-clause-long
+enter_order-requires-clause-long g c = λ trades.
     let e = c.args.order in
     let t = g.T.Table.contents c.args.table.now in
     let s = g.met.T.Table.sound c.args.table.now in
@@ -29,4 +29,4 @@ let_in-requires-clause-long g c = λ trades.
     subst (λ (xs : List Order). length xs < length c.args.run.now) (sym same) (c.requires.long trades)
 
 pub returns-clause-table : goal.returns-clause-table
-returns-clause-table g c = c.let_in.ensures.table ∙ ap (λ z. (entry_of c.args.trades c.args.order z).table) c.remove.ensures.after
+returns-clause-table g c = c.enter_order.ensures.table ∙ ap (λ z. (entry_of c.args.trades c.args.order z).table) c.remove.ensures.after

@@ -3,9 +3,9 @@ use Rattle.std.proofs.lemmas.Bool.{eq-eqb, ne_eqb, or_left, or_right, or_from, n
 use Rattle.std.proofs.lemmas.List.{take_more_set, length-take-le}
 use Rattle.std.specs.List.{slice_get}
 use Rattle.rules.specs.Side.{opposite, willing}
-use Rattle.tables.specs.Meaning.{listed}
+use Rattle.tables.specs.Meaning.{listed, with_listed}
 use Rattle.book.specs.Calls.{Sweep, sweep, sweep_of}
-use Rattle.market.specs.Fills.{first_taken, first_taken_on, with_listed}
+use Rattle.market.specs.Fills.{first_taken, first_taken_on}
 use Rattle.market.specs.Outcome.{written_into}
 use Rattle.market.proofs.Taking.{listed_side}
 use Rattle.market.proofs.Writing.{written_so_far, same_behind}

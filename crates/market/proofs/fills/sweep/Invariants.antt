@@ -1,8 +1,7 @@
 use Rattle.std.proofs.Common.{◌≡◌, ◌+◌, min, ◌<◌, ◌≤◌, length, take, drop}
 use Rattle.rules.specs.Side.{opposite}
-use Rattle.tables.specs.Meaning.{listed}
+use Rattle.tables.specs.Meaning.{listed, with_listed}
 use Rattle.book.specs.Calls.{sweep}
-use Rattle.market.specs.Fills.{with_listed}
 use Rattle.market.proofs.Sweeping.{after}
 use Rattle.market.proofs.fills.sweep.Given as goal
 

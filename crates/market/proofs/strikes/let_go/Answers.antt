@@ -1,9 +1,8 @@
 use Rattle.std.proofs.Common.{◌≡◌, ◌<◌, [], ◌∷◌, ◌++◌, length, take, Some, None, sym, ap, ◌∙◌, arith, length-set, append-nil, append_assoc, add-one}
 use Rattle.std.proofs.lemmas.List.{take_more_set, length-take-le}
 use Rattle.std.specs.List.{slice_get, remove}
-use Rattle.tables.specs.Meaning.{listed, said}
+use Rattle.tables.specs.Meaning.{listed, with_listed, said}
 use Rattle.book.specs.Calls.{going_slips}
-use Rattle.market.specs.Fills.{with_listed}
 use Rattle.market.specs.Outcome.{written_into}
 use Rattle.market.proofs.Taking.{get_below, is_held, removed_at_rank}
 use Rattle.market.proofs.Writing.{written_so_far, same_behind}

@@ -1,7 +1,6 @@
 use Rattle.std.proofs.Common.{◌≡◌, ◌+◌, ◌-◌, ◌≤◌, ◌++◌, length, take, drop}
-use Rattle.tables.specs.Meaning.{listed}
+use Rattle.tables.specs.Meaning.{listed, with_listed}
 use Rattle.book.specs.Calls.{going_slips, staying_orders}
-use Rattle.market.specs.Fills.{with_listed}
 use Rattle.market.proofs.Lapsing.{going_from, staying_from}
 use Rattle.market.proofs.strikes.let_go.Given as goal
 

@@ -8,10 +8,10 @@ use Rattle.book.proofs.Rooms.{sweep_short}
 use Rattle.market.specs.Outcome.{written_into}
 use Rattle.market.proofs.Keeping.{sweep_part, takes_still}
 use Rattle.market.proofs.Writing.{length_into, then_written}
-use Rattle.market.proofs.entries.arrive_on.Goals as goal
+use Rattle.market.proofs.entries.enter_trading_on.Goals as goal
 
-pub settle-lapsed-requires-clause-room : goal.settle-lapsed-requires-clause-room
-settle-lapsed-requires-clause-room g c =
+pub place_left-lapsed-requires-clause-room : goal.place_left-lapsed-requires-clause-room
+place_left-lapsed-requires-clause-room g c =
     let o = c.args.order in
     let t = g.T.Table.contents c.args.table.now in
     let w = sweep_of o t in
@@ -19,8 +19,8 @@ settle-lapsed-requires-clause-room g c =
     subst (λ z. takes z o ≡ true) (sym after)
     (takes_still t o w.rest (sweep_part o.direction o.number o.price (listed (opposite o.direction) t) o.volume) c.requires.room)
 
-pub settle-lapsed-requires-clause-place : goal.settle-lapsed-requires-clause-place
-settle-lapsed-requires-clause-place g c =
+pub place_left-lapsed-requires-clause-place : goal.place_left-lapsed-requires-clause-place
+place_left-lapsed-requires-clause-place g c =
     let o = c.args.order in
     let t = g.T.Table.contents c.args.table.now in
     let w = sweep_of o t in
@@ -39,6 +39,6 @@ returns-clause-run g c =
     let run = c.sweep-swept.new.run in
     let a = c.sweep-swept.result.written in
     let few = (sweep_short o.direction o.number o.price (listed (opposite o.direction) t) o.volume).fits in
-    then_written c.args.run.now w.slips (lapse_left o w.left) (omega (arith, few, c.requires.long)) a run c.settle-lapsed.new.run c.sweep-swept.ensures.written
+    then_written c.args.run.now w.slips (lapse_left o w.left) (omega (arith, few, c.requires.long)) a run c.place_left-lapsed.new.run c.sweep-swept.ensures.written
     c.sweep-swept.ensures.run
-    (c.settle-lapsed.ensures.run ∙ (λ i. written_into (between_to_end run a (length run) (omega arith) i) (lapse_left o (c.sweep-swept.ensures.left i))))
+    (c.place_left-lapsed.ensures.run ∙ (λ i. written_into (between_to_end run a (length run) (omega arith) i) (lapse_left o (c.sweep-swept.ensures.left i))))
