@@ -132,7 +132,8 @@ impl<T: Table> Session<T> {
 
     // Works any call, over a run of any length.
     pub fn work(&mut self, call: Call, run: &mut [Slip]) -> Result<Answer<Told>, Refusal>
-        ensures outcome { came_to (by_number result) self.new run.new ≡ by_the_rules self.old call run.old }
+        ensures outcome { came_to (by_number result) self.new run.new
+            ≡ by_the_rules self.old call run.old }
         ensures lawful { Lawfully self.old call (length run.old)
             (came_to (by_number result) self.new run.new) }
     {

@@ -146,7 +146,8 @@ fn lapse<T: Table>(table: &mut T, direction: Direction, run: &mut [Slip]) -> usi
     requires few { length (listed direction (T.Table.contents table.old)) ≤ 1000000 }
     ensures written { result ≡ length (lapses (listed direction (T.Table.contents table.old))) }
     ensures table { let old = T.Table.contents table.old in
-        T.Table.contents table.new ≡ with_listed direction (limit_orders (listed direction old)) old }
+        T.Table.contents table.new
+        ≡ with_listed direction (limit_orders (listed direction old)) old }
     ensures run { run.new
         ≡ written_into run.old (lapses (listed direction (T.Table.contents table.old))) }
 {
@@ -198,7 +199,8 @@ pub fn strike<T: Table>(terms: &Terms, table: &mut T, run: &mut [Slip]) -> Struc
     ensures written { let trades = fixing_trades terms.now (T.Table.contents table.old).book in
         result.written ≡ length (strike_slips trades) }
     ensures table { let old = T.Table.contents table.old in
-        T.Table.contents table.new ≡ holding old (book_after_strike (fixing_trades terms.now old.book)) }
+        T.Table.contents table.new
+        ≡ holding old (book_after_strike (fixing_trades terms.now old.book)) }
     ensures run { let trades = fixing_trades terms.now (T.Table.contents table.old).book in
         run.new ≡ written_into run.old (strike_slips trades) }
 {

@@ -42,7 +42,8 @@ impl<R: Print> Report<R> {
         given: &T,
         published: &T,
     ) -> anyhow::Result<()>
-        ensures { self.new.tally ≡ tally_after (plain (T.eq given.now published.now)) self.old.tally }
+        ensures { self.new.tally
+            ≡ tally_after (plain (T.eq given.now published.now)) self.old.tally }
     {
         let v = agreement(given, published);
         self.tell(

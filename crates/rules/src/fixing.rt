@@ -36,14 +36,16 @@ struct Search<'a, C> {
 
 impl<C: Curve> Search<'_, C> {
     fn at_price(&self, p: u32) -> Candidate
-        ensures { result ≡ candidate_at self.now.terms.now.reference (C.Curve.book self.now.curve.now) p }
+        ensures { result ≡ candidate_at self.now.terms.now.reference
+            (C.Curve.book self.now.curve.now) p }
     {
         candidate(self.curve, self.terms.reference(), p)
     }
 
     // The best of what is held, the price q and the prices below and above it, each moved into the band.
     fn try_beside(&self, held: Candidate, q: u32) -> Candidate
-        ensures { result ≡ tried_beside_under self.now.terms.now (C.Curve.book self.now.curve.now) held q }
+        ensures { result ≡ tried_beside_under self.now.terms.now
+            (C.Curve.book self.now.curve.now) held q }
     {
         let (lo, hi) = self.terms.band();
         let q = q.clamp(lo, hi);
@@ -54,7 +56,9 @@ impl<C: Curve> Search<'_, C> {
 
     // The same at the price of the order i, if there is one.
     fn try_order(&self, held: Candidate, i: u128) -> Candidate
-        ensures { result ≡ tried_at_under self.now.terms.now (C.Curve.book self.now.curve.now) held (slice_get (C.Curve.orders self.now.curve.now) i) }
+        ensures { result ≡ tried_at_under self.now.terms.now
+            (C.Curve.book self.now.curve.now) held
+            (slice_get (C.Curve.orders self.now.curve.now) i) }
     {
         match self.curve.at(i) {
             Some(o) => self.try_beside(held, o.price),

@@ -15,9 +15,11 @@ pub trait Ranked {
     ghost oneway: { (a b : Self) → precedes a b ≡ true → precedes b a ≡ false };
 
     // where a does not rank before b, nor b before c, a does not rank before c; so ranking before is transitive too
-    ghost chain: { (a b c : Self) → precedes a b ≡ false → precedes b c ≡ false → precedes a c ≡ false };
+    ghost chain: { (a b c : Self) → precedes a b ≡ false → precedes b c ≡ false
+        → precedes a c ≡ false };
 
-    ghost level: { (a b : Self) → precedes a b ≡ false → precedes b a ≡ false → identity a ≡ identity b };
+    ghost level: { (a b : Self) → precedes a b ≡ false → precedes b a ≡ false
+        → identity a ≡ identity b };
 }
 
 // The better of two; the one held where they are level.

@@ -22,7 +22,8 @@ pub trait Quotes {
     // a price is not better than itself
     ghost strict: { (p : ℕ) → better_at way p p ≡ false };
 
-    ghost chain: { (p q s : ℕ) → better_at way p q ≡ true → better_at way q s ≡ true → better_at way p s ≡ true };
+    ghost chain: { (p q s : ℕ) → better_at way p q ≡ true → better_at way q s ≡ true
+        → better_at way p s ≡ true };
 
     // of two prices, one is better or they are the same
     ghost total: { (p q : ℕ) → better_at way p q ≡ false → better_at way q p ≡ false → p ≡ q };

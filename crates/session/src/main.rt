@@ -17,8 +17,10 @@ use tables::queue::Queue;
 
 // The text that a file is answered with; where it says accepted terms and calls, that of a lawful journal.
 fn answer(heap: Global, file: &[u8]) -> Result<String, AllocError>
-    ensures lawful { IfOk result (λ text. AnsweredLawfully record { places = 128 } 512 file.now (string_bytes text)) }
-    ensures exact { IfOk result (λ text. string_bytes text ≡ file_text record { places = 128 } 512 file.now) }
+    ensures lawful { IfOk result
+        (λ text. AnsweredLawfully record { places = 128 } 512 file.now (string_bytes text)) }
+    ensures exact { IfOk result
+        (λ text. string_bytes text ≡ file_text record { places = 128 } 512 file.now) }
 {
     let mut places = [Order::limit(0, 0, Direction::Buy, 0, 0); 256];
     let slip = Slip::Lapse {
@@ -31,7 +33,10 @@ fn answer(heap: Global, file: &[u8]) -> Result<String, AllocError>
 
 // Reads a file and writes the text that it is answered with. Of a file that is too long, one byte too many is read.
 fn serve<R: Read + Drop, W: Write>(heap: Global, reader: R, writer: &mut W) -> anyhow::Result<()>
-    ensures { OnOk result (IfSome (R.remaining reader) (λ file. Appends (W.contents writer.old) (W.contents writer.new) (file_text record { places = 128 } 512 file))) }
+    ensures { OnOk result
+        (IfSome (R.remaining reader)
+        (λ file. Appends (W.contents writer.old) (W.contents writer.new)
+        (file_text record { places = 128 } 512 file))) }
 {
     let mut file = Vec::new(heap);
     reader.take(LONGEST as u64 + 1).read_to_end(&mut file)?;

@@ -28,7 +28,8 @@ fn put(
     came: Result<Answer<Told>, Refusal>,
     run: &[Slip],
 ) -> Result<(), AllocError>
-    ensures { OnOk result (string_bytes out.new ≡ string_bytes out.old ++ text_of_call came run.now) }
+    ensures { OnOk result
+        (string_bytes out.new ≡ string_bytes out.old ++ text_of_call came run.now) }
 {
     match came {
         Ok(answer) => put_call(out, &came, &run[..run.len().min(answer.slips)]),

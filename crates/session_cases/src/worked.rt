@@ -25,7 +25,8 @@ pub const NO_SLIP: Slip = Slip::Lapse {
 };
 
 fn over_queue(heap: Global, places: usize, room: usize, file: &[u8]) -> Result<String, AllocError>
-    ensures { IfOk result (λ text. string_bytes text ≡ file_text (run_capacity places) room file.now) }
+    ensures { IfOk result
+        (λ text. string_bytes text ≡ file_text (run_capacity places) room file.now) }
 {
     let mut orders = vec![in heap; no_order(); places]?;
     let run = vec![in heap; NO_SLIP; room]?;

@@ -65,7 +65,8 @@ impl From<AllocFailed<Call>> for Stop {
 
 // Reads so many calls, up to the first fault.
 fn read_calls(mut lines: Lines, count: u32, calls: &mut Vec<Call>) -> Result<(), Stop>
-    ensures { Gathers result calls.old.items calls.new.items (calls_gathered count (ahead lines.entry)) }
+    ensures { Gathers result calls.old.items calls.new.items
+        (calls_gathered count (ahead lines.entry)) }
 {
     for _ in 0..count {
         let (call, behind) = lines.next_call()?;
@@ -86,7 +87,10 @@ fn answer_calls<T: Table + Drop>(
     run: &mut [Slip],
     out: &mut String,
 ) -> Result<u32, Stop>
-    ensures { Comes result (string_bytes out.new) (string_bytes out.old ++ calls_text terms (length run.old) count (new_session (T.Table.contents table).capacity) (ahead lines.entry)) }
+    ensures { Comes result (string_bytes out.new)
+        (string_bytes out.old
+        ++ calls_text terms (length run.old) count
+        (new_session (T.Table.contents table).capacity) (ahead lines.entry)) }
 {
     let mut calls = Vec::new(heap);
     let read = read_calls(lines, count, &mut calls);
@@ -104,7 +108,9 @@ fn answer_sections<T: Table + Drop>(
     run: &mut [Slip],
     out: &mut String,
 ) -> Result<u32, Stop>
-    ensures { Comes result (string_bytes out.new) (string_bytes out.old ++ file_text (T.Table.contents table).capacity (length run.old) file.now) }
+    ensures { Comes result (string_bytes out.new)
+        (string_bytes out.old
+        ++ file_text (T.Table.contents table).capacity (length run.old) file.now) }
 {
     let lines = Lines::new(file)?;
     let (section, lines) = lines.next_terms()?;
@@ -120,10 +126,18 @@ pub fn answer_file<T: Table + Drop>(
     table: T,
     mut run: Vec<Slip>,
 ) -> Result<String, AllocError>
-    ensures in_turn { IfOk result (λ text. AnsweredInTurn (T.Table.contents table).capacity (length run.items) file.now (string_bytes text)) }
-    ensures lawful { IfOk result (λ text. AnsweredLawfully (T.Table.contents table).capacity (length run.items) file.now (string_bytes text)) }
-    ensures broken { IfOk result (λ text. BrokenInTurn (T.Table.contents table).capacity (length run.items) file.now (string_bytes text)) }
-    ensures exact { IfOk result (λ text. string_bytes text ≡ file_text (T.Table.contents table).capacity (length run.items) file.now) }
+    ensures in_turn { IfOk result
+        (λ text. AnsweredInTurn (T.Table.contents table).capacity (length run.items) file.now
+        (string_bytes text)) }
+    ensures lawful { IfOk result
+        (λ text. AnsweredLawfully (T.Table.contents table).capacity (length run.items) file.now
+        (string_bytes text)) }
+    ensures broken { IfOk result
+        (λ text. BrokenInTurn (T.Table.contents table).capacity (length run.items) file.now
+        (string_bytes text)) }
+    ensures exact { IfOk result
+        (λ text. string_bytes text
+        ≡ file_text (T.Table.contents table).capacity (length run.items) file.now) }
 {
     let mut out = String::new(heap);
     let last = match answer_sections(heap, file, table, &mut run, &mut out) {

@@ -15,13 +15,15 @@ use rules::refusal::Refusal;
 use std::alloc::AllocError;
 
 pub fn put_line(out: &mut String, line: OutputLine) -> Result<(), AllocError>
-    ensures { OnOk result (string_bytes out.new ≡ string_bytes out.old ++ line_text (line_of line)) }
+    ensures { OnOk result
+        (string_bytes out.new ≡ string_bytes out.old ++ line_text (line_of line)) }
 {
     writeln!(out, "{line}").map_err(|_| AllocError)
 }
 
 fn put_slips(out: &mut String, slips: &[Slip]) -> Result<(), AllocError>
-    ensures { OnOk result (string_bytes out.new ≡ string_bytes out.old ++ flat_map slip_text slips.now) }
+    ensures { OnOk result
+        (string_bytes out.new ≡ string_bytes out.old ++ flat_map slip_text slips.now) }
 {
     for slip in slips {
         put_line(out, OutputLine::from(*slip))?;
@@ -35,7 +37,9 @@ pub fn put_call(
     answer: &Result<Answer<Told>, Refusal>,
     slips: &[Slip],
 ) -> Result<(), AllocError>
-    ensures { OnOk result (string_bytes out.new ≡ string_bytes out.old ++ verdict_text (verdict_of answer.now slips.now)) }
+    ensures { OnOk result
+        (string_bytes out.new ≡ string_bytes out.old
+        ++ verdict_text (verdict_of answer.now slips.now)) }
 {
     match answer {
         Ok(answer) => {
@@ -48,7 +52,8 @@ pub fn put_call(
 
 // Each call that was worked, and its slips.
 pub fn put_journal(out: &mut String, journal: &[Entry]) -> Result<(), AllocError>
-    ensures { OnOk result (string_bytes out.new ≡ string_bytes out.old ++ flat_map entry_text journal.now) }
+    ensures { OnOk result
+        (string_bytes out.new ≡ string_bytes out.old ++ flat_map entry_text journal.now) }
 {
     for entry in journal {
         put_call(out, &entry.answer, &entry.slips)?;

@@ -24,7 +24,9 @@ impl<T> Both<T> {
 
     // Lends one of the two: what is written to it then stands there.
     pub fn of_mut(&mut self, direction: Direction) -> &mut T
-        ensures* lends { sem 𝓛 (Lends (the_row T.row) T.row self.entry result (λ w. with_other direction w self.old)) }
+        ensures* lends { sem 𝓛
+            (Lends (the_row T.row) T.row self.entry result
+            (λ w. with_other direction w self.old)) }
         ensures value { result.now ≡ of direction self.old }
     {
         match direction {

@@ -53,9 +53,13 @@ pub fn replay<T: Table>(
     table: &mut T,
     calls: &[Call],
 ) -> Result<Vec<Reply>, AllocError>
-    ensures answers { IfOk result (λ v. v.items ≡ replies (cleared (T.Table.contents table.old)) calls.now) }
+    ensures answers { IfOk result
+        (λ v. v.items ≡ replies (cleared (T.Table.contents table.old)) calls.now) }
     ensures room { (T.Table.contents table.new).capacity ≡ (T.Table.contents table.old).capacity }
-    ensures after { MatchResult result (λ _. T.Table.contents table.new ≡ all_after (cleared (T.Table.contents table.old)) calls.now) (λ _. T.Table.contents table.new ≡ T.Table.contents table.old) }
+    ensures after { MatchResult result
+        (λ _. T.Table.contents table.new
+        ≡ all_after (cleared (T.Table.contents table.old)) calls.now)
+        (λ _. T.Table.contents table.new ≡ T.Table.contents table.old) }
 {
     let mut given = Vec::with_capacity(heap, calls.len())?;
     table.clear();
@@ -72,10 +76,17 @@ pub fn replay_both<A: Table, B: Table>(
     other: &mut B,
     calls: &[Call],
 ) -> Result<(Vec<Reply>, Vec<Reply>), AllocError>
-    ensures answers { IfOk result (λ p. (p.0.items ≡ replies (cleared (A.Table.contents one.old)) calls.now) × (p.1.items ≡ replies (cleared (B.Table.contents other.old)) calls.now)) }
-    ensures after { OnOk result ((A.Table.contents one.new ≡ all_after (cleared (A.Table.contents one.old)) calls.now) × (B.Table.contents other.new ≡ all_after (cleared (B.Table.contents other.old)) calls.now)) }
-    ensures room { ((A.Table.contents one.new).capacity ≡ (A.Table.contents one.old).capacity) × ((B.Table.contents other.new).capacity ≡ (B.Table.contents other.old).capacity) }
-    ensures equal { (A.Table.contents one.old).capacity ≡ (B.Table.contents other.old).capacity → IfOk result (λ p. p.0.items ≡ p.1.items) }
+    ensures answers { IfOk result
+        (λ p. (p.0.items ≡ replies (cleared (A.Table.contents one.old)) calls.now)
+        × (p.1.items ≡ replies (cleared (B.Table.contents other.old)) calls.now)) }
+    ensures after { OnOk result
+        ((A.Table.contents one.new ≡ all_after (cleared (A.Table.contents one.old)) calls.now)
+        × (B.Table.contents other.new
+        ≡ all_after (cleared (B.Table.contents other.old)) calls.now)) }
+    ensures room { ((A.Table.contents one.new).capacity ≡ (A.Table.contents one.old).capacity)
+        × ((B.Table.contents other.new).capacity ≡ (B.Table.contents other.old).capacity) }
+    ensures equal { (A.Table.contents one.old).capacity ≡ (B.Table.contents other.old).capacity
+        → IfOk result (λ p. p.0.items ≡ p.1.items) }
 {
     let first = replay(heap, one, calls)?;
     let second = replay(heap, other, calls)?;

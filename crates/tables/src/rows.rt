@@ -49,7 +49,8 @@ pub fn index_of(row: &[Order], number: u32) -> Option<usize>
 pub fn insert_into(direction: Direction, row: &mut [Order], count: usize, order: Order)
     requires room { count < length row.old }
     requires ranked { in_rank (order_before direction) (take count row.old) ≡ true }
-    ensures { take (count + 1) row.new ≡ insert_ranked (order_before direction) order (take count row.old) }
+    ensures { take (count + 1) row.new
+        ≡ insert_ranked (order_before direction) order (take count row.old) }
 {
     let at = rank_of(direction, &row[..count], &order);
     row[at..count + 1].rotate_right(1);

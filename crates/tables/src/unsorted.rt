@@ -20,8 +20,11 @@ pub struct Unsorted {
 impl Unsorted {
     // Lends the order at a place, if there is one: what is written to it then stands there.
     pub fn lend(&mut self, place: Place) -> Option<&mut Order>
-        ensures* lends { sem 𝓛 (LendsIf the_row order_row self.entry result (λ o. overwritten place o self.old) self.old) }
-        ensures item { ItemMut (vec_items (of place.direction self.old.orders)) place.index place.index result }
+        ensures* lends { sem 𝓛
+            (LendsIf the_row order_row self.entry result
+            (λ o. overwritten place o self.old) self.old) }
+        ensures item { ItemMut
+            (vec_items (of place.direction self.old.orders)) place.index place.index result }
     {
         self.orders.of_mut(place.direction).get_mut(place.index)
     }
