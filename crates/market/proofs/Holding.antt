@@ -8,7 +8,7 @@ use Rattle.rules.specs.declared.order.Direction.TheVariants.{Buy, Sell}
 use Rattle.rules.specs.declared.order.Order.{Order}
 use Rattle.rules.specs.declared.terms.Terms.{Terms}
 use Rattle.tables.specs.Listing.{numbered, times, insert, with_volume, without}
-use Rattle.tables.specs.Meaning.{Contents, Sound, listed, with_listed, holding, book_of, each_side, lookup, held, takes, put_in, added, removed}
+use Rattle.tables.specs.Meaning.{Contents, listed, with_listed, holding, book_of, each_side, lookup, held, takes, put_in, added, removed}
 use Rattle.tables.proofs.Keeps.{held_none}
 use Rattle.tables.proofs.Numbers.{counted-insert}
 use Rattle.tables.proofs.Ranking.{length-insert}
@@ -23,9 +23,8 @@ use Rattle.book.specs.Model.{day_after}
 use Rattle.book.proofs.Gate.{of_step}
 use Rattle.book.proofs.Sided.{length-without}
 use Rattle.market.specs.Kept.{Kept}
-use Rattle.market.proofs.Altering.{Held, looked_up}
+use Rattle.market.proofs.Altering.{found_number}
 use Rattle.market.proofs.Keeping.{Part, part_same, sweep_part, match_part, limits_part, without_part, part_trans}
-use Rattle.market.proofs.Taking.{is_held}
 
 -- a part of the orders of c
 pub record Fewer (x c : Contents) : Type 0 where
@@ -124,8 +123,9 @@ module _ (day : Day) (h : Kept day) (stage : Stage) (tally : ℕ) (later : day.t
     kept_entered false x f room = kept_added e.volume x f room
 
 module _ (day : Day) (h : Kept day) where
-  alter_kept : (a : Alteration) (o : Order) → held o.number day.table.book ≡ true → day.tally < 1000000 → Kept (alter day a o).day
-  alter_kept a o there lt =
+  alter_kept : (a : Alteration) (o : Order) → lookup o.number day.table.book ≡ Some o → day.tally < 1000000 → Kept (alter day a o).day
+  alter_kept a o found lt =
+      let there : held o.number day.table.book ≡ true = ap is_some found in
       let x : Contents = removed o.number day.table in
       let one : order_count x + 1 ≤ order_count day.table = removed_one o.number day.table there in
       let tally : ℕ = alter_tally day.tally a o in
@@ -150,8 +150,8 @@ module _ (day : Day) (h : Kept day) where
       kept_as_many (strike t day).day.stage (strike t day).day.table
       (of_parts day.table (limit_orders m.buys) (limit_orders m.sells) (part_trans _ m.buys _ (limits_part m.buys) p.0) (part_trans _ m.sells _ (limits_part m.sells) p.1))
 
-  kept_step : Sound day.table → (t : Terms) (call : Call) (room : ℕ) → Kept (day_after day (step t day call room))
-  kept_step s t call room =
+  kept_step : (t : Terms) (call : Call) (room : ℕ) → Kept (day_after day (step t day call room))
+  kept_step t call room =
       of_step t day room (λ call out. Kept (day_after day out))
       (record {
         refused = λ call n. h;
@@ -162,16 +162,15 @@ module _ (day : Day) (h : Kept day) where
             (omega (arith, h.fewer));
         alters =
             λ a o k.
-            let at : Held a.number day.table o = looked_up a.number day.table s o k.found in
-            alter_kept a o (is_held day.table s o.direction at.rank o at.there) k.given;
+            alter_kept a o (ap (λ n. lookup n day.table.book) (found_number a.number day.table.book o k.found) ∙ k.found) k.given;
         withdraws = λ w o _. kept_as_many day.stage (removed o.number day.table) (removed_fewer o.number day.table);
         advances = λ _. cond_both (strikes day.stage) _ _ (λ (m : Made). Kept m.day) (λ _. strike_kept t) (λ _. kept_as_many _ day.table (fewer_same day.table));
       }) call
 
 -- the same of the day after, if v is the day before
 module _ (v : Day) (h : Kept v) (day : Day) (same : v ≡ day) where
-  pub kept_after : Sound v.table → (t : Terms) (call : Call) (room : ℕ) (after : Day) → after ≡ day_after day (step t day call room) → Kept after
-  kept_after s t call room after e = subst Kept (sym e) (subst (λ d. Kept (day_after d (step t d call room))) same (kept_step v h s t call room))
+  pub kept_after : (t : Terms) (call : Call) (room : ℕ) (after : Day) → after ≡ day_after day (step t day call room) → Kept after
+  kept_after t call room after e = subst Kept (sym e) (subst (λ d. Kept (day_after d (step t d call room))) same (kept_step v h t call room))
 
   pub kept_changed : (a : Alteration) (o : Order) → lookup o.number day.table.book ≡ Some o → day.tally < 1000000 → (after : Day) → after ≡ (alter day a o).day → Kept after
-  kept_changed a o found given after e = subst Kept (sym e) (alter_kept day (subst Kept same h) a o (ap is_some found) given)
+  kept_changed a o found given after e = subst Kept (sym e) (alter_kept day (subst Kept same h) a o found given)

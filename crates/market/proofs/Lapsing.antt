@@ -1,5 +1,5 @@
 -- Orders of a side go, in a walk by rank.
-use Rattle.std.proofs.Common.{◌≡◌, ℕ, zero, suc, ◌+◌, Bool, true, false, cond, List, [], ◌∷◌, length, Some, None, refl, sym, ap, ◌∙◌, arith}
+use Rattle.std.proofs.Common.{◌≡◌, ℕ, zero, suc, ◌+◌, Bool, true, false, cond, List, [], ◌∷◌, length, Some, None, refl, ap, ◌∙◌, arith}
 use Rattle.std.proofs.lemmas.Bool.{cond-true, cond-false}
 use Rattle.std.specs.List.{slice_get, remove}
 use Rattle.rules.specs.declared.order.Order.{Order}
@@ -20,39 +20,32 @@ module _ (goes : Order → Bool) (slip : Order → Slip) where
   going_from (suc i) [] = []
   going_from (suc i) (x ∷ xs) = going_from i xs
 
-  pub staying_gone : (i : ℕ) (xs : List Order) (o : Order) → slice_get xs i ≡ Some o → goes o ≡ true → staying_from i (remove xs i) ≡ staying_from i xs
-  staying_gone i [] o h m = let z : ◌≡◌ {A = ℕ} 0 1 = cc in absurd (omega arith)
-  staying_gone zero (x ∷ xs) o h m = let e : x ≡ o = cc in sym (cond-true (goes x) (staying_orders goes xs) (x ∷ staying_orders goes xs) (ap goes e ∙ m))
-  staying_gone (suc i) (x ∷ xs) o h m = ap (λ ys. x ∷ ys) (staying_gone i xs o h m)
-
-  pub going_gone : (i : ℕ) (xs : List Order) (o : Order) → slice_get xs i ≡ Some o → goes o ≡ true → going_from i xs ≡ slip o ∷ going_from i (remove xs i)
-  going_gone i [] o h m = let z : ◌≡◌ {A = ℕ} 0 1 = cc in absurd (omega arith)
-  going_gone zero (x ∷ xs) o h m =
+  -- the order at the rank goes
+  pub gone : (i : ℕ) (xs : List Order) (o : Order) → slice_get xs i ≡ Some o → goes o ≡ true →
+      (going_from i xs ≡ slip o ∷ going_from i (remove xs i)) × (staying_from i xs ≡ staying_from i (remove xs i))
+  gone i [] o h m = let z : ◌≡◌ {A = ℕ} 0 1 = cc in absurd (omega arith)
+  gone zero (x ∷ xs) o h m =
       let e : x ≡ o = cc in
-      cond-true (goes x) (slip x ∷ going_slips goes slip xs) (going_slips goes slip xs) (ap goes e ∙ m) ∙ ap (λ y. slip y ∷ going_slips goes slip xs) e
-  going_gone (suc i) (x ∷ xs) o h m = going_gone i xs o h m
+      let t = ap goes e ∙ m in
+      (cond-true (goes x) (slip x ∷ going_slips goes slip xs) _ t ∙ ap (λ y. slip y ∷ going_slips goes slip xs) e, cond-true (goes x) (staying_orders goes xs) _ t)
+  gone (suc i) (x ∷ xs) o h m = let ih = gone i xs o h m in (ih.0, ap (λ ys. x ∷ ys) ih.1)
 
-  pub staying_next : (i : ℕ) (xs : List Order) (o : Order) → slice_get xs i ≡ Some o → goes o ≡ false → staying_from (suc i) xs ≡ staying_from i xs
-  staying_next i [] o h m = let z : ◌≡◌ {A = ℕ} 0 1 = cc in absurd (omega arith)
-  staying_next zero (x ∷ xs) o h m = let e : x ≡ o = cc in sym (cond-false (goes x) (staying_orders goes xs) _ (ap goes e ∙ m))
-  staying_next (suc i) (x ∷ xs) o h m = ap (λ ys. x ∷ ys) (staying_next i xs o h m)
+  -- it stays
+  pub stays : (i : ℕ) (xs : List Order) (o : Order) → slice_get xs i ≡ Some o → goes o ≡ false →
+      (going_from i xs ≡ going_from (suc i) xs) × (staying_from i xs ≡ staying_from (suc i) xs)
+  stays i [] o h m = let z : ◌≡◌ {A = ℕ} 0 1 = cc in absurd (omega arith)
+  stays zero (x ∷ xs) o h m =
+      let e : x ≡ o = cc in
+      let t = ap goes e ∙ m in
+      (cond-false (goes x) _ (going_slips goes slip xs) t, cond-false (goes x) (staying_orders goes xs) _ t)
+  stays (suc i) (x ∷ xs) o h m = let ih = stays i xs o h m in (ih.0, ap (λ ys. x ∷ ys) ih.1)
 
-  pub going_next : (i : ℕ) (xs : List Order) (o : Order) → slice_get xs i ≡ Some o → goes o ≡ false → going_from (suc i) xs ≡ going_from i xs
-  going_next i [] o h m = let z : ◌≡◌ {A = ℕ} 0 1 = cc in absurd (omega arith)
-  going_next zero (x ∷ xs) o h m = let e : x ≡ o = cc in sym (cond-false (goes x) _ (going_slips goes slip xs) (ap goes e ∙ m))
-  going_next (suc i) (x ∷ xs) o h m = going_next i xs o h m
-
-  pub staying_end : (i : ℕ) (xs : List Order) → slice_get xs i ≡ None → staying_from i xs ≡ xs
-  staying_end zero [] h = refl
-  staying_end (suc i) [] h = refl
-  staying_end zero (x ∷ xs) h = let z : ◌≡◌ {A = ℕ} 0 1 = cc in absurd (omega arith)
-  staying_end (suc i) (x ∷ xs) h = ap (λ ys. x ∷ ys) (staying_end i xs h)
-
-  pub going_end : (i : ℕ) (xs : List Order) → slice_get xs i ≡ None → going_from i xs ≡ []
-  going_end zero [] h = refl
-  going_end (suc i) [] h = refl
-  going_end zero (x ∷ xs) h = let z : ◌≡◌ {A = ℕ} 0 1 = cc in absurd (omega arith)
-  going_end (suc i) (x ∷ xs) h = going_end i xs h
+  -- no order is left to look at
+  pub over : (i : ℕ) (xs : List Order) → slice_get xs i ≡ None → (going_from i xs ≡ []) × (staying_from i xs ≡ xs)
+  over zero [] h = (refl, refl)
+  over (suc i) [] h = (refl, refl)
+  over zero (x ∷ xs) h = let z : ◌≡◌ {A = ℕ} 0 1 = cc in absurd (omega arith)
+  over (suc i) (x ∷ xs) h = let ih = over i xs h in (ih.0, ap (λ ys. x ∷ ys) ih.1)
 
 -- each order lapses or stays
 pub lapses_count : (xs : List Order) → length (lapses xs) + length (limit_orders xs) ≡ length xs

@@ -1,5 +1,5 @@
 -- What a call comes to that no row refuses, and that the first row refuses.
-use Rattle.std.proofs.Common.{◌≡◌, ℕ, suc, ◌+◌, ◌<◌, Bool, true, Some, None, Option, Ok, Err, Result, List, length, refl, sym, ap, subst, ◌∙◌, arith, add-one}
+use Rattle.std.proofs.Common.{◌≡◌, ℕ, ◌+◌, ◌<◌, Bool, true, Some, None, Option, Ok, Result, List, length, refl, sym, ap, subst, ◌∙◌, arith, add-one}
 use Rattle.rules.specs.declared.order.Order.{Order}
 use Rattle.rules.specs.declared.terms.Terms.{Terms}
 use Rattle.tables.specs.Meaning.{Contents, listed, takes, removed}
@@ -8,7 +8,7 @@ use Rattle.book.specs.declared.call.Call.TheVariants.{Enter, Alter, Withdraw}
 use Rattle.book.specs.declared.call.NewOrder.{NewOrder}
 use Rattle.book.specs.declared.call.Withdrawal.{Withdrawal}
 use Rattle.book.specs.declared.slip.Slip.{Slip}
-use Rattle.book.specs.Calls.{Made, Outcome, outcome_of, outcome_or_refusal, of_named, order_of, entry_of, alter, withdraw, step, refused_by}
+use Rattle.book.specs.Calls.{Made, outcome_of, outcome_or_refusal, of_named, order_of, entry_of, alter, withdraw, step, refused_by}
 use Rattle.book.specs.Day.{Day}
 use Rattle.book.specs.Model.{day_after}
 use Rattle.book.specs.Rows.{first_row, past_row, order_named, enter_rows, alter_rows, withdraw_rows}

@@ -94,9 +94,6 @@ module _ (d : Direction) (n p : ℕ) where
       ap (λ ys. sweep d n p ys v) f.1 ∙ turn o f.0 v m goes e
       ∙ ap (λ ys. slipped (trade d n o.number o.price m) (sweep d n p (first_taken m ys) (v - m))) (sym f.1)
 
-pub first_length : (xs : List Order) (o : Order) → slice_get xs 0 ≡ Some o → 0 < length xs
-first_length xs o h = let f = first_list xs o h in omega (arith, ap length f.1)
-
 -- what is left to come is one less, if the entering order goes on
 pub took_length : (xs : List Order) (o : Order) (v m : ℕ) → slice_get xs 0 ≡ Some o → m ≡ min v o.volume → 0 < v - m → length (first_taken m xs) + 1 ≡ length xs
 took_length xs o v m h e p =

@@ -1,30 +1,21 @@
 -- The orders of a side at an index: what a removal and a change of volume make of a table.
-use Rattle.std.proofs.Common.{◌≡◌, ℕ, zero, suc, ◌-◌, ◌<◌, ◌≤◌, true, false, List, [], ◌∷◌, length, get_or, Some, refl, sym, ap, ◌∙◌, subst, arith}
-use Rattle.std.proofs.lemmas.Bool.{both_ways, and_from, not_from_false, and_parts, le-leb, lt-leb, ne_eqb, cond-true, cond-false}
+use Rattle.std.proofs.Common.{◌≡◌, ℕ, ◌-◌, ◌<◌, ◌≤◌, Bool, true, false, List, [], ◌∷◌, Some, refl, sym, ap, ◌∙◌, subst, arith}
+use Rattle.std.proofs.lemmas.Bool.{both_ways, and_from, not_from_false, le-leb, lt-leb, ne_eqb, cond-true, cond-false}
 use Rattle.std.specs.List as lists
-use Rattle.std.specs.List.{slice_get}
+use Rattle.std.specs.List.{slice_get, list_all}
+use Rattle.std.proofs.lemmas.List.Sums.{AllPass-from_list_all}
+use Rattle.std.proofs.lemmas.Option.{slice_get_within, get_or_from_slice_get}
 use Rattle.rules.specs.Side.{same}
 use Rattle.rules.specs.declared.order.Direction.{Direction}
 use Rattle.rules.specs.declared.order.Direction.TheVariants.{Buy, Sell}
 use Rattle.rules.specs.declared.order.Order.{Order}
-use Rattle.tables.specs.Listing.{times, with_volume, without, set_volume, on_side as all_on}
+use Rattle.tables.specs.Listing.{times, with_volume, without, set_volume}
 use Rattle.tables.specs.Meaning.{Contents, Sound, listed, with_listed, holding, held, removed, volume_set, sets_volume}
 use Rattle.tables.specs.Stored.{Stands}
 use Rattle.tables.proofs.Keeps.{held_on, removed_at, volume_set_at}
 use Rattle.tables.proofs.InOrder.{side_apart}
 use Rattle.tables.proofs.Numbers.{without_at, set_volume_at}
 use Rattle.market.specs.Fills.{first_taken, first_taken_on}
-
--- a read that finds
-pub get_below : (xs : List Order) (i : ℕ) (o : Order) → slice_get xs i ≡ Some o → i < length xs
-get_below [] i o h = let z : ◌≡◌ {A = ℕ} 0 1 = cc in absurd (omega arith)
-get_below (x ∷ xs) zero o h = omega arith
-get_below (x ∷ xs) (suc i) o h = omega (arith, get_below xs i o h)
-
-pub get_is : (xs : List Order) (i : ℕ) (o e : Order) → slice_get xs i ≡ Some o → get_or xs i e ≡ o
-get_is [] i o e h = let z : ◌≡◌ {A = ℕ} 0 1 = cc in absurd (omega arith)
-get_is (x ∷ xs) zero o e h = cc
-get_is (x ∷ xs) (suc i) o e h = get_is xs i o e h
 
 pub first_list : (xs : List Order) (o : Order) → slice_get xs 0 ≡ Some o → (os : List Order) × (xs ≡ o ∷ os)
 first_list [] o h = let z : ◌≡◌ {A = ℕ} 0 1 = cc in absurd (omega arith)
@@ -36,19 +27,19 @@ same_side Buy Sell h = absurd (both_ways false refl h)
 same_side Sell Buy h = absurd (both_ways false refl h)
 same_side Sell Sell h = refl
 
-all_at : (d : Direction) (xs : List Order) (i : ℕ) (o : Order) → all_on d xs ≡ true → slice_get xs i ≡ Some o → same o.direction d ≡ true
-all_at d [] i o a h = let z : ◌≡◌ {A = ℕ} 0 1 = cc in absurd (omega arith)
-all_at d (x ∷ xs) zero o a h = let e : x ≡ o = cc in subst (λ y. same y.direction d ≡ true) e (and_parts _ _ a).0
-all_at d (x ∷ xs) (suc i) o a h = all_at d xs i o (and_parts _ _ a).1 h
+-- what passes a list's test at an index
+pub passes_at : (p : Order → Bool) (xs : List Order) (i : ℕ) (o : Order) → list_all p xs ≡ true → slice_get xs i ≡ Some o → p o ≡ true
+passes_at p xs i o a h =
+    subst (λ x. p x ≡ true) (get_or_from_slice_get xs i o o h) (AllPass-from_list_all p xs a i o (slice_get_within xs i o h))
 
 -- an order that is listed on a side is of that side
 pub listed_side : (c : Contents) → Sound c → (d : Direction) (i : ℕ) (o : Order) → slice_get (listed d c) i ≡ Some o → o.direction ≡ d
-listed_side c s d i o h = same_side o.direction d (all_at d (listed d c) i o (s.sided d) h)
+listed_side c s d i o h = same_side o.direction d (passes_at (λ x. same x.direction d) (listed d c) i o (s.sided d) h)
 
 -- the order o at the index i of the side d
 module _ (c : Contents) (s : Sound c) (d : Direction) (i : ℕ) (o : Order) (h : slice_get (listed d c) i ≡ Some o) where
   pub stands : Stands o.number (listed d c) i
-  stands = (get_below (listed d c) i o h, λ e. ap (λ x. x.number) (get_is (listed d c) i o e h))
+  stands = (slice_get_within (listed d c) i o h, λ e. ap (λ x. x.number) (get_or_from_slice_get (listed d c) i o e h))
 
   pub few : times o.number (listed d c) ≤ 1
   few = side_apart c.book s.once d o.number

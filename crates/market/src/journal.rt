@@ -52,8 +52,8 @@ fn enter_line<T: Table>(
     })
 }
 
-// Starts a session over the table and works the calls in turn, each over the whole run. Every entry
-// of the journal is lawful against the ledger of the entries before it.
+// Starts a session over the table and works the calls in turn, each over the whole run. Every
+// entry of the journal is lawful against the ledger of the entries before it.
 pub fn work_all<T: Table>(
     heap: Global,
     terms: Terms,

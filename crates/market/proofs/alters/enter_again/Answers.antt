@@ -1,31 +1,18 @@
-use Rattle.std.proofs.Common.{◌≡◌, ◌<◌, true, List, length, sym, ap, subst, ◌∙◌}
-use Rattle.rules.specs.Side.{opposite}
+use Rattle.std.proofs.Common.{◌<◌, List, length, sym, ap, subst, ◌∙◌}
 use Rattle.rules.specs.declared.order.Order.{Order}
-use Rattle.tables.specs.Listing.{without}
-use Rattle.tables.specs.Meaning.{listed, takes}
 use Rattle.book.specs.Calls.{entry_of}
-use Rattle.market.proofs.Altering.{Held, looked_up, gone, takes_again, listed_own}
+use Rattle.market.proofs.Altering.{takes_back, other_side}
 use Rattle.market.proofs.alters.enter_again.Goals as goal
 
 pub enter_order-requires-clause-room : goal.enter_order-requires-clause-room
 enter_order-requires-clause-room g c =
-    let e = c.args.order in
-    let t = g.T.Table.contents c.args.table.now in
-    let s = g.met.T.Table.sound c.args.table.now in
-    let o = c.requires.stands.0 in
-    let h : Held e.number t o = looked_up e.number t s o c.requires.stands.1 in
-    let after = c.remove.ensures.after ∙ gone t s o e h.number c.requires.stands.2 h.rank h.there in
-    subst (λ z. takes z e ≡ true) (sym after) (takes_again t s o e h.number c.requires.stands.2 h.rank h.there)
+    let h = c.requires.stands in
+    takes_back (g.T.Table.contents c.args.table.now) (g.met.T.Table.sound c.args.table.now) h.0 c.args.order h.1 h.2 _ c.remove.ensures.after
 
 pub enter_order-requires-clause-long : goal.enter_order-requires-clause-long
 enter_order-requires-clause-long g c = λ trades.
-    let e = c.args.order in
-    let t = g.T.Table.contents c.args.table.now in
-    let s = g.met.T.Table.sound c.args.table.now in
-    let o = c.requires.stands.0 in
-    let h : Held e.number t o = looked_up e.number t s o c.requires.stands.1 in
-    let after = c.remove.ensures.after ∙ gone t s o e h.number c.requires.stands.2 h.rank h.there in
-    let same = ap (listed (opposite e.direction)) after ∙ listed_own e.direction (without e.number (listed e.direction t)) t in
+    let h = c.requires.stands in
+    let same = other_side (g.T.Table.contents c.args.table.now) (g.met.T.Table.sound c.args.table.now) h.0 c.args.order h.1 h.2 _ c.remove.ensures.after in
     subst (λ (xs : List Order). length xs < length c.args.run.now) (sym same) (c.requires.long trades)
 
 pub returns-clause-table : goal.returns-clause-table

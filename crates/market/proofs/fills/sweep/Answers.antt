@@ -1,6 +1,7 @@
 use Rattle.std.proofs.Common.{◌≡◌, ℕ, ◌==◌, true, false, not, ◌||◌, ◌-◌, ◌<◌, [], ◌∷◌, ◌++◌, length, take, Some, None, sym, ap, ◌∙◌, subst, arith, length-set, append-nil}
 use Rattle.std.proofs.lemmas.Bool.{eq-eqb, ne_eqb, or_left, or_right, or_from, not_from_true, not_from_false}
 use Rattle.std.proofs.lemmas.List.{take_more_set, length-take-le}
+use Rattle.std.proofs.lemmas.Option.{slice_get_within}
 use Rattle.std.specs.List.{slice_get}
 use Rattle.rules.specs.Side.{opposite, willing}
 use Rattle.tables.specs.Meaning.{listed, with_listed}
@@ -9,7 +10,7 @@ use Rattle.market.specs.Fills.{first_taken, first_taken_on}
 use Rattle.market.specs.Outcome.{written_into}
 use Rattle.market.proofs.Taking.{listed_side}
 use Rattle.market.proofs.Writing.{written_so_far, same_behind}
-use Rattle.market.proofs.Sweeping.{after, after_more, still, sweep_none, sweep_stop, sweep_turn, took_length, took_smaller, first_length, listed_on, on_twice}
+use Rattle.market.proofs.Sweeping.{after, after_more, still, sweep_none, sweep_stop, sweep_turn, took_length, took_smaller, listed_on, on_twice}
 use Rattle.market.proofs.fills.sweep.Goals as goal
 use Rattle.market.proofs.fills.sweep.Goals.{in_default, in-Some+then-left-eq0, then-left-eq0-via-then-left-eq0, then-left-eq0-via-else-left-eq0+then-not-meets}
 
@@ -57,7 +58,7 @@ orders-preserved g c =
     let w : willing a o.price p ≡ true = let y = c.if-not-meets.false in let z = c.meets.ensures in cc in
     let goes : (v == 0 || not (willing a o.price p)) ≡ false = or_from _ _ (ne_eqb v 0 c.if-left-eq0.false) (not_from_true _ w) in
     let turn = sweep_turn d n p (listed a t) o v m first goes c.min-volume.ensures in
-    let below : k < length c.orders.run = omega (arith, inv.room (omega (arith, c.if-left-eq0.false)), first_length (listed a t) o first) in
+    let below : k < length c.orders.run = omega (arith, inv.room (omega (arith, c.if-left-eq0.false)), slice_get_within (listed a t) 0 o first) in
     record {
       sweep =
           inv.sweep ∙ ap (after (take k c.orders.run)) turn ∙ sym (after_more (take k c.orders.run) _ (sweep d n p (first_taken m (listed a t)) (v - m)))

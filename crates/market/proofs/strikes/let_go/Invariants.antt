@@ -8,9 +8,11 @@ abbrev pub invariant-orders : goal.invariant-orders
 invariant-orders g l =
     let m = g.T.Table.contents in
     let d = l.direction in
+    let goes = g.L.Leaving.goes l.leaving in
+    let slip_of = g.L.Leaving.slip l.leaving in
     record {
-      slips : going_slips (g.L.Leaving.goes l.leaving) (g.L.Leaving.slip l.leaving) (listed d (m l.initial.table)) ≡ take l.written l.run ++ going_from (g.L.Leaving.goes l.leaving) (g.L.Leaving.slip l.leaving) l.rank (listed d (m l.table));
-      rest : staying_orders (g.L.Leaving.goes l.leaving) (listed d (m l.initial.table)) ≡ staying_from (g.L.Leaving.goes l.leaving) (g.L.Leaving.slip l.leaving) l.rank (listed d (m l.table));
+      slips : going_slips goes slip_of (listed d (m l.initial.table)) ≡ take l.written l.run ++ going_from goes slip_of l.rank (listed d (m l.table));
+      rest : staying_orders goes (listed d (m l.initial.table)) ≡ staying_from goes slip_of l.rank (listed d (m l.table));
       table : m l.table ≡ with_listed d (listed d (m l.table)) (m l.initial.table);
       run : drop l.written l.run ≡ drop l.written l.initial.run;
       fits : l.written ≤ length l.run;

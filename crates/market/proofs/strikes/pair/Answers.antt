@@ -1,6 +1,7 @@
 use Rattle.std.proofs.Common.{◌≡◌, ◌+◌, ◌<◌, true, false, [], ◌∷◌, length, take, Some, None, sym, ap, ◌∙◌, arith, length-set}
 use Rattle.std.proofs.lemmas.Bool.{and_from, and_left, and_right}
 use Rattle.std.proofs.lemmas.List.{take_more_set}
+use Rattle.std.proofs.lemmas.Option.{slice_get_within}
 use Rattle.std.specs.List.{slice_get}
 use Rattle.rules.specs.Side.{willing}
 use Rattle.rules.specs.declared.order.Direction.TheVariants.{Buy, Sell}
@@ -8,7 +9,6 @@ use Rattle.book.specs.declared.slip.Slip.TheVariants.{Trade}
 use Rattle.book.specs.Rows.{order_count}
 use Rattle.book.specs.Calls.{pair, turnover}
 use Rattle.market.specs.Fills.{first_taken, first_taken_on}
-use Rattle.market.proofs.Taking.{get_below}
 use Rattle.market.proofs.Writing.{same_behind}
 use Rattle.market.proofs.Pairing.{Both, after, after_more, still, none, none_sell, pair_stop, pair_turn, took_fewer, turnover_append, buy_first, sell_first, both_taken, ended}
 use Rattle.market.proofs.strikes.pair.Goals as goal
@@ -50,7 +50,7 @@ bounds-run-written g c =
     let b = c.in-Some-Some.buy in
     let s = c.in-Some-Some.sell in
     let hb : slice_get t.book.buys 0 ≡ Some b = let x = c.in-Some-Some.is-0 in let y = c.at.ensures in let z = c.in-Some-Some.buy-is in cc in
-    omega (arith, get_below t.book.buys 0 b hb, c.pairs.invariant.fewer, c.requires.room, c.pairs.auto.run)
+    omega (arith, slice_get_within t.book.buys 0 b hb, c.pairs.invariant.fewer, c.requires.room, c.pairs.auto.run)
 
 pub pairs-preserved : goal.pairs-preserved
 pairs-preserved g c =
@@ -71,7 +71,7 @@ pairs-preserved g c =
     let turn = pair_turn p t b s hb hs m goes c.min-volume.ensures in
     let inv = c.pairs.invariant in
     let same = c.from-traded.ensures in
-    let place : k < length c.pairs.run = omega (arith, get_below t.book.buys 0 b hb, inv.fewer, c.requires.room, c.pairs.auto.run) in
+    let place : k < length c.pairs.run = omega (arith, slice_get_within t.book.buys 0 b hb, inv.fewer, c.requires.room, c.pairs.auto.run) in
     let more = take_more_set c.pairs.run k slip place in
     record {
       pairs =

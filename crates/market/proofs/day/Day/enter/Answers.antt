@@ -16,5 +16,5 @@ returns-clause-day g c =
 
 pub invariant_of-self : goal.invariant_of-self
 invariant_of-self g c =
-    kept_after _ c.self.invariant c.args.self.now c.self.view_is (g.met.T.Table.sound c.self.inside.table) c.args.terms.now
+    kept_after _ c.self.invariant c.args.self.now c.self.view_is c.args.terms.now
     (Enter c.args.new) (length c.args.run.now) _ (returns-clause-day g c)
