@@ -21,9 +21,6 @@ before_irrefl d a h = both_ways (before d a a) ((ranking d).one_way a a h) h
 pub before_trans : (d : Direction) (a b c : Order) → Before d a b → Before d b c → Before d a c
 before_trans d a b c h k = (ranking d).chain a b c h k
 
-pub before_false : (d : Direction) (a b : Order) → (a.number ≡ b.number → ⊥) → before d a b ≡ false → Before d b a
-before_false d a b n h = (ranking d).total a b n h
-
 -- a better price ranks first
 pub better_first : (d : Direction) (a b : Order) → better d a.price b.price ≡ true → Before d a b
 better_first Buy a b h = grind (arith, nat_tests)

@@ -8,7 +8,7 @@ use Rattle.book.specs.declared.call.Call.TheVariants.{Enter, Alter, Withdraw}
 use Rattle.book.specs.declared.call.NewOrder.{NewOrder}
 use Rattle.book.specs.declared.call.Withdrawal.{Withdrawal}
 use Rattle.book.specs.declared.slip.Slip.{Slip}
-use Rattle.book.specs.Calls.{Made, outcome_of, outcome_or_refusal, of_named, order_of, entry_of, alter, withdraw, step, refused_by}
+use Rattle.book.specs.Calls.{Made, outcome_of, outcome_or_refusal, of_named, order_of, entry_of, alter, withdraw, step}
 use Rattle.book.specs.Day.{Day}
 use Rattle.book.specs.Model.{day_after}
 use Rattle.book.specs.Rows.{first_row, past_row, order_named, enter_rows, alter_rows, withdraw_rows}
@@ -22,9 +22,6 @@ use Rattle.market.proofs.Keeping.{takes_new}
 passed : (r : Option ℕ) (x : Result Made ℕ) (m : Made) → None ≡ r → Ok m ≡ x → outcome_of m ≡ outcome_or_refusal (past_row r x)
 passed r x m e h = λ i. outcome_or_refusal (past_row (e i) (h i))
 
-refused : (r : Option ℕ) (x : Result Made ℕ) (n : ℕ) → Some n ≡ r → refused_by n ≡ outcome_or_refusal (past_row r x)
-refused r x n e = ap (λ z. outcome_or_refusal (past_row z x)) e
-
 module _ (t : Terms) (day : Day) (room : ℕ) where
   pub alter_is :
       (a : Alteration) (o : Order) → None ≡ first_row (alter_rows t day a room (order_named a.number day)) →
@@ -35,16 +32,6 @@ module _ (t : Terms) (day : Day) (room : ℕ) where
       (w : Withdrawal) (o : Order) → None ≡ first_row (withdraw_rows day w (order_named w.number day)) →
       order_named w.number day ≡ Some o → outcome_of (withdraw day o) ≡ step t day (Withdraw w) room
   withdraw_is w o e f = passed _ _ (withdraw day o) e (ap (λ z. of_named z (withdraw day)) (sym f))
-
-  pub alter_refused :
-      (a : Alteration) (n : ℕ) → Some n ≡ first_row (alter_rows t day a room (order_named a.number day)) →
-      refused_by n ≡ step t day (Alter a) room
-  alter_refused a n e = refused _ _ n e
-
-  pub withdraw_refused :
-      (w : Withdrawal) (n : ℕ) → Some n ≡ first_row (withdraw_rows day w (order_named w.number day)) →
-      refused_by n ≡ step t day (Withdraw w) room
-  withdraw_refused w n e = refused _ _ n e
 
   pub alter_asked :
       (a : Alteration) (o : Order) → None ≡ first_row (alter_rows t day a room (order_named a.number day)) →
