@@ -294,6 +294,6 @@ lower_price_fails law =
 pub exchanged_ends_fails : Fails exchanged_ends
 exchanged_ends_fails law =
     let u = law t cap [] (try (enter_call 1 Buy None 10)) in
-    let o : Order = record { number = 1; member = 1; direction = Buy; price = 700; market = true; volume = 10; arrival = 1 } in
+    let o : Order = record (order_of t 1 (new_order 1 Buy None 10)) { price = 700 } in
     let e : ◌≡◌ {A = ℕ} 1300 700 = ap price_in ((listing (u.shown.sides Buy)).sound o (inl refl)).account in
     omega (arith, e)

@@ -11,7 +11,7 @@ use Rattle.book.specs.declared.slip.Slip.{Slip}
 use Rattle.book.specs.declared.slip.Slip.TheVariants.{Trade, Lapse}
 use Rattle.book.specs.declared.call.Alteration.{Alteration}
 use Rattle.book.specs.declared.call.Call.{Call}
-use Rattle.book.specs.declared.call.Call.TheVariants.{Enter, Alter, Withdraw, Advance}
+use Rattle.book.specs.declared.call.Call.TheVariants.{Alter, Advance}
 use Rattle.book.specs.declared.answer.Answer.{Answer}
 use Rattle.book.specs.declared.answer.Told.{Told}
 use Rattle.book.proofs.Members.{listing, listed, Member}
@@ -81,10 +81,8 @@ alter_stage a None L = refl
 alter_stage a (Some o) L = cond_both (renews a o) (renew a o L) (keep a o L) (λ M. M.stage ≡ L.stage) (λ _. refl) (λ _. refl)
 
 pub feed_stage : (t : Terms) (c : Call) (a : Answer Told) (L : Ledger) → (feed t (feed_of c a) L).stage ≡ stage_after L.stage c
-feed_stage t (Enter e) a L = refl
 feed_stage t (Alter x) a L = alter_stage x (L.accounts x.number) L
-feed_stage t (Withdraw w) a L = refl
-feed_stage t Advance a L = refl
+feed_stage t _ a L = refl
 
 pub post_tally : (ss : List Slip) (L : Ledger) → (post_all ss L).tally ≡ L.tally
 post_tally [] L = refl

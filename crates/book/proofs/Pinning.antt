@@ -171,8 +171,8 @@ advancing_busy Closed p = inl refl
 busy_after : (s : Stage) (c : Call) (p : Option ℕ) → (mode s c p ≡ quiet) ⊎ IsSettled (stage_after s c)
 busy_after s (Enter e) p = dealing_busy s
 busy_after s (Alter a) p = dealing_busy s
-busy_after s (Withdraw w) p = inl refl
 busy_after s Advance p = advancing_busy s p
+busy_after s _ p = inl refl
 
 busy : (t : Terms) (L : Ledger) (c : Call) (a : Answer Told) (p : Option ℕ) → (mode L.stage c p ≡ quiet) ⊎ IsSettled (feed t (feed_of c a) L).stage
 busy t L c a p = subst (λ s. (mode L.stage c p ≡ quiet) ⊎ IsSettled s) (sym (feed_stage t c a L)) (busy_after L.stage c p)

@@ -344,9 +344,9 @@ exchanged_ends =
     only_if o.market (enter_order day (record o { price = market_price t (opposite e.direction) }))))
 
 -- before all at its price
-abbrev ahead : Direction → Order → List Order → List Order
-ahead d o [] = o ∷ []
-ahead d o (x ∷ xs) = cond (better d x.price o.price) (x ∷ ahead d o xs) (o ∷ (x ∷ xs))
+abbrev ahead_at_price : Direction → Order → List Order → List Order
+ahead_at_price d o [] = o ∷ []
+ahead_at_price d o (x ∷ xs) = cond (better d x.price o.price) (x ∷ ahead_at_price d o xs) (o ∷ (x ∷ xs))
 
 -- outside Open the last comer stands first at its price
 abbrev pub last_first : Step
@@ -363,7 +363,7 @@ last_first =
       slips = [];
       traded = 0;
       held = o.volume;
-      table = holding day.table (with_side d (ahead d o (side d b)) b);
+      table = holding day.table (with_side d (ahead_at_price d o (side d b)) b);
     }))))
 
 -- an alter leaves price, place and arrival as they are, and sets the volume

@@ -1,6 +1,6 @@
 // The rows of each call, read from the top as the rules list them.
 ghost use Rattle.std.specs.Prelude.{◌≡◌, ◌==◌, not, IfOk, Some};
-ghost use Rattle.rules.specs.Entry.{answer, row};
+ghost use Rattle.rules.specs.Entry.{refusal_of, row};
 ghost use Rattle.book.specs.Rows.{first_row, beyond_band, all_arrivals_given, has_place};
 ghost use Rattle.book.specs.Rows.{short_of_trades, order_count, short_of_strike, order_named};
 ghost use Rattle.book.specs.Rows.{enter_rows, alter_rows, withdraw_rows, advance_rows};
@@ -16,7 +16,7 @@ use rules::terms::Terms;
 use tables::table::Table;
 
 fn check_stage(stage: Stage) -> Result<(), Refusal>
-    ensures { answer result ≡ row (is_closed stage) 3 }
+    ensures { refusal_of result ≡ row (is_closed stage) 3 }
 {
     match stage {
         Stage::Closed => Err(Refusal::Closed),
@@ -26,7 +26,7 @@ fn check_stage(stage: Stage) -> Result<(), Refusal>
 
 // A market order names no price.
 fn check_limit(terms: &Terms, limit: Option<u32>) -> Result<(), Refusal>
-    ensures { answer result ≡ row (beyond_band terms.now limit) 6 }
+    ensures { refusal_of result ≡ row (beyond_band terms.now limit) 6 }
 {
     match limit {
         Some(price) => check_price(terms, price),
@@ -35,7 +35,7 @@ fn check_limit(terms: &Terms, limit: Option<u32>) -> Result<(), Refusal>
 }
 
 fn check_owner(order: &Order, member: u32) -> Result<(), Refusal>
-    ensures { answer result ≡ row (not (member == order.now.member)) 8 }
+    ensures { refusal_of result ≡ row (not (member == order.now.member)) 8 }
 {
     if member != order.member {
         return Err(Refusal::NotOwner);
@@ -45,7 +45,7 @@ fn check_owner(order: &Order, member: u32) -> Result<(), Refusal>
 
 // A market order is not altered.
 fn check_market(order: &Order) -> Result<(), Refusal>
-    ensures { answer result ≡ row order.now.market 9 }
+    ensures { refusal_of result ≡ row order.now.market 9 }
 {
     if order.market {
         return Err(Refusal::MarketOrder);
@@ -54,7 +54,7 @@ fn check_market(order: &Order) -> Result<(), Refusal>
 }
 
 fn check_arrivals(tally: u32) -> Result<(), Refusal>
-    ensures { answer result ≡ row (all_arrivals_given tally) 10 }
+    ensures { refusal_of result ≡ row (all_arrivals_given tally) 10 }
 {
     if tally >= 1_000_000 {
         return Err(Refusal::ArrivalsGiven);
@@ -64,7 +64,7 @@ fn check_arrivals(tally: u32) -> Result<(), Refusal>
 
 impl<T: Table> Day<T> {
     fn check_side(&self, direction: Direction) -> Result<(), Refusal>
-        ensures { answer result ≡ row (not (has_place direction self.now.table)) 11 }
+        ensures { refusal_of result ≡ row (not (has_place direction self.now.table)) 11 }
     {
         if self.table.count(direction) >= self.table.places() {
             return Err(Refusal::SideFull);
@@ -74,7 +74,7 @@ impl<T: Table> Day<T> {
 
     // Trading in Open may write a slip for each order of the other side, and one more.
     fn check_trades(&self, direction: Direction, room: usize) -> Result<(), Refusal>
-        ensures { answer result
+        ensures { refusal_of result
             ≡ row (short_of_trades self.now.stage direction self.now.table room) 12 }
     {
         match self.stage {
@@ -94,7 +94,7 @@ impl<T: Table> Day<T> {
 
     // A strike may write a slip for each order held.
     fn check_strike(&self, room: usize) -> Result<(), Refusal>
-        ensures { answer result ≡ row (short_of_strike self.now.stage self.now.table room) 12 }
+        ensures { refusal_of result ≡ row (short_of_strike self.now.stage self.now.table room) 12 }
     {
         if self.stage.strikes() && room < self.orders() {
             return Err(Refusal::RunTooShort);
@@ -103,7 +103,7 @@ impl<T: Table> Day<T> {
     }
 
     pub fn check_enter(&self, terms: &Terms, new: NewOrder, room: usize) -> Result<(), Refusal>
-        ensures { answer result ≡ first_row (enter_rows terms.now self.now new room) }
+        ensures { refusal_of result ≡ first_row (enter_rows terms.now self.now new room) }
     {
         check_stage(self.stage)?;
         check_member(new.member)?;
@@ -123,7 +123,7 @@ impl<T: Table> Day<T> {
         room: usize,
     ) -> Result<Order, Refusal>
         ensures rows { let held = order_named wanted.number self.now in
-            answer result ≡ first_row (alter_rows terms.now self.now wanted room held) }
+            refusal_of result ≡ first_row (alter_rows terms.now self.now wanted room held) }
         ensures named { IfOk result (λ order. order_named wanted.number self.now ≡ Some order) }
     {
         check_stage(self.stage)?;
@@ -141,7 +141,7 @@ impl<T: Table> Day<T> {
     // The order that is to be withdrawn.
     pub fn check_withdraw(&self, named: Withdrawal) -> Result<Order, Refusal>
         ensures rows { let held = order_named named.number self.now in
-            answer result ≡ first_row (withdraw_rows self.now named held) }
+            refusal_of result ≡ first_row (withdraw_rows self.now named held) }
         ensures named { IfOk result (λ order. order_named named.number self.now ≡ Some order) }
     {
         check_stage(self.stage)?;
@@ -152,7 +152,7 @@ impl<T: Table> Day<T> {
     }
 
     pub fn check_advance(&self, room: usize) -> Result<(), Refusal>
-        ensures { answer result ≡ first_row (advance_rows self.now room) }
+        ensures { refusal_of result ≡ first_row (advance_rows self.now room) }
     {
         check_stage(self.stage)?;
         self.check_strike(room)?;

@@ -4,9 +4,10 @@ use Rattle.rules.specs.Band.{within}
 use Rattle.rules.specs.Refusal.{number}
 use Rattle.rules.specs.declared.refusal.Refusal.{Refusal}
 
-abbrev pub answer : {X : Type 0} → Result X Refusal → Option ℕ
-answer (Ok x) = None
-answer (Err e) = Some (number e)
+-- the number of a refusal, or none
+abbrev pub refusal_of : {X : Type 0} → Result X Refusal → Option ℕ
+refusal_of (Ok x) = None
+refusal_of (Err e) = Some (number e)
 
 -- a row: the number where its condition holds, else none
 abbrev pub row : Bool → ℕ → Option ℕ

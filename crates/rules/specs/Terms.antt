@@ -10,9 +10,9 @@ pub data TermsAnswer : Type 0 where
   -- reference, block, lowest and highest price
   made : ℕ → ℕ → ℕ → ℕ → TermsAnswer
 
-abbrev pub answer : Result Terms Refusal → TermsAnswer
-answer (Ok t) = made t.reference t.block t.lo t.hi
-answer (Err e) = refused (number e)
+abbrev pub terms_answer : Result Terms Refusal → TermsAnswer
+terms_answer (Ok t) = made t.reference t.block t.lo t.hi
+terms_answer (Err e) = refused (number e)
 
 -- the reference is looked at first
 abbrev pub terms_of : ℕ → ℕ → TermsAnswer

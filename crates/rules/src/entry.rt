@@ -1,13 +1,13 @@
 // What the rules ask of an order's member, volume and limit price, whatever else the book holds.
 ghost use Rattle.std.specs.Prelude.{◌≡◌, not};
 ghost use Rattle.rules.specs.Band.{within};
-ghost use Rattle.rules.specs.Entry.{answer, row, is_member, is_volume};
+ghost use Rattle.rules.specs.Entry.{refusal_of, row, is_member, is_volume};
 
 use crate::refusal::Refusal;
 use crate::terms::Terms;
 
 pub fn check_member(member: u32) -> Result<(), Refusal>
-    ensures { answer result ≡ row (not (is_member member)) 4 }
+    ensures { refusal_of result ≡ row (not (is_member member)) 4 }
 {
     match member {
         1..=16 => Ok(()),
@@ -16,7 +16,7 @@ pub fn check_member(member: u32) -> Result<(), Refusal>
 }
 
 pub fn check_volume(terms: &Terms, volume: u32) -> Result<(), Refusal>
-    ensures { answer result ≡ row (not (is_volume terms.now.block volume)) 5 }
+    ensures { refusal_of result ≡ row (not (is_volume terms.now.block volume)) 5 }
 {
     if !(1..=100_000_000).contains(&volume) || volume % terms.block() != 0 {
         return Err(Refusal::Volume);
@@ -25,7 +25,7 @@ pub fn check_volume(terms: &Terms, volume: u32) -> Result<(), Refusal>
 }
 
 pub fn check_price(terms: &Terms, price: u32) -> Result<(), Refusal>
-    ensures { answer result ≡ row (not (within terms.now.lo terms.now.hi price)) 6 }
+    ensures { refusal_of result ≡ row (not (within terms.now.lo terms.now.hi price)) 6 }
 {
     let (lo, hi) = terms.band();
     if !(lo..=hi).contains(&price) {

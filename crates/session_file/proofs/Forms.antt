@@ -9,7 +9,7 @@ use Rattle.rules.specs.declared.order.Direction.{Direction}
 use Rattle.rules.specs.declared.order.Direction.TheVariants.{Buy, Sell}
 use Rattle.session_file.specs.Cut.{is, fields}
 use Rattle.session_file.specs.Grammar.{Number, Text, Side, Price, Spaced}
-use Rattle.session_file.specs.Reading.{letter_of, number_of, side_of, limit_of, numbered, lettered_side, onward, taking}
+use Rattle.session_file.specs.Reading.{letter_of, number_of, side_of, limit_of, as_limit, lettered_side, onward, taking}
 use Rattle.session_file.proofs.Cutting.{cut_whole, slice_split_past}
 use Rattle.session_file.proofs.Numbers.{number_found, number_taken, Free, number_free}
 
@@ -36,8 +36,8 @@ not_market n c h = ne_eqb c 77 (λ e. let d : digit_value 77 < 10 = rw e at h.di
 
 number_limit : (n : ℕ) (field : List ℕ) → Number n field → limit_of field ≡ Some (Some n)
 number_limit n [] h = absurd (omega (arith, h.digits.0))
-number_limit n (c ∷ []) h = rw (not_market n c h) (ap numbered (number_taken n (c ∷ []) h))
-number_limit n (c ∷ d ∷ cs) h = ap numbered (number_taken n (c ∷ d ∷ cs) h)
+number_limit n (c ∷ []) h = rw (not_market n c h) (ap as_limit (number_taken n (c ∷ []) h))
+number_limit n (c ∷ d ∷ cs) h = ap as_limit (number_taken n (c ∷ d ∷ cs) h)
 
 pub limit_takes : (price : Option ℕ) → Takes limit_of price (Price price)
 limit_takes None = record { taken = λ field e. rw e refl; unspaced = λ field e. letter_free 32 77 field refl e }
@@ -79,7 +79,7 @@ side_found side [] e = cc
 side_found side (c ∷ []) e = lettered_side_found side c e
 side_found side (c ∷ d ∷ cs) e = cc
 
-numbered_found : (price : Option ℕ) (field : List ℕ) (read : Option ℕ) → number_of field ≡ read → numbered read ≡ Some price → Price price field
+numbered_found : (price : Option ℕ) (field : List ℕ) (read : Option ℕ) → number_of field ≡ read → as_limit read ≡ Some price → Price price field
 numbered_found price field None r e = cc
 numbered_found price field (Some n) r e = subst (λ p. Price p field) (some_price (Some n) price e) (number_found n field r)
 

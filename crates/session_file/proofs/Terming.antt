@@ -51,7 +51,7 @@ unmade x y e p q = let z : true ≡ false = sym p ∙ ap is_made e ∙ q in cc
 
 module _ (r b : ℕ) where
   found : (x y : Bool) (p : within 1 1000000 r ≡ x) (q : within 1 10000 b ≡ y) (res : Result Terms Refusal) →
-      terms.answer res ≡ cond x (cond y (terms.made r b (lowest r) (highest r)) (terms.refused 2)) (terms.refused 1) → by_number res ≡ judged r b x y p q
+      terms.terms_answer res ≡ cond x (cond y (terms.made r b (lowest r) (highest r)) (terms.refused 2)) (terms.refused 1) → by_number res ≡ judged r b x y p q
   found true true p q (Ok t) e = ap Ok (terms_same t _ (ap reference_of e) (ap block_of e) (ap low_of e) (ap high_of e))
   found true true p q (Err f) e = absurd (unmade _ _ (sym e) refl refl)
   found true false p q (Ok t) e = absurd (unmade _ _ e refl refl)
@@ -59,7 +59,7 @@ module _ (r b : ℕ) where
   found false y p q (Ok t) e = absurd (unmade _ _ e refl refl)
   found false y p q (Err f) e = ap (λ o. Err (reference_of o)) e
 
-  pub terms_found : (res : Result Terms Refusal) → terms.answer res ≡ terms.terms_of r b → by_number res ≡ terms_from r b
+  pub terms_found : (res : Result Terms Refusal) → terms.terms_answer res ≡ terms.terms_of r b → by_number res ≡ terms_from r b
   terms_found res e = found (within 1 1000000 r) (within 1 10000 b) refl refl res e
 
 by_rules : (r b : ℕ) (x y : Bool) (p : within 1 1000000 r ≡ x) (q : within 1 10000 b ≡ y) → figures (judged r b x y p q) ≡ cond x (cond y (terms.made r b (lowest r) (highest r)) (terms.refused 2)) (terms.refused 1)

@@ -36,16 +36,16 @@ lettered_side c = if c == 66 then Some Buy else (if c == 83 then Some Sell else 
 abbrev pub side_of : List ℕ → Option Direction
 side_of field = onward (letter_of field) lettered_side
 
-abbrev pub numbered : Option ℕ → Option (Option ℕ)
-numbered None = None
-numbered (Some n) = Some (Some n)
+abbrev pub as_limit : Option ℕ → Option (Option ℕ)
+as_limit None = None
+as_limit (Some n) = Some (Some n)
 
 abbrev pub limit_or : Option ℕ → Option (Option ℕ) → Option (Option ℕ)
 limit_or None other = other
 limit_or (Some c) other = if c == 77 then Some None else other
 
 abbrev pub limit_of : List ℕ → Option (Option ℕ)
-limit_of field = limit_or (letter_of field) (numbered (number_of field))
+limit_of field = limit_or (letter_of field) (as_limit (number_of field))
 
 -- the first field, and what follows from it and the fields behind it
 abbrev pub taking : {X Y : Type 0} → (List ℕ → Option X) → List (List ℕ) → (X → List (List ℕ) → Option Y) → Option Y

@@ -7,7 +7,7 @@ ghost use Rattle.session_file.specs.Broken.{BrokenInTurn};
 ghost use Rattle.session_file.specs.Files.{AnsweredInTurn};
 ghost use Rattle.session_file.specs.Gathered.{Gathers, calls_gathered};
 ghost use Rattle.session_file.specs.Lawful.{AnsweredLawfully};
-ghost use Rattle.session_file.specs.Lines.{ahead};
+ghost use Rattle.session_file.specs.Lines.{ahead_in};
 ghost use Rattle.session_file.specs.Stops.{Comes};
 ghost use Rattle.session_file.specs.declared.answer.Stop.TheVariants.{Broken, Refused, OutOfMemory};
 
@@ -66,7 +66,7 @@ impl From<AllocFailed<Call>> for Stop {
 // Reads so many calls, up to the first fault.
 fn read_calls(mut lines: Lines, count: u32, calls: &mut Vec<Call>) -> Result<(), Stop>
     ensures { Gathers result calls.old.items calls.new.items
-        (calls_gathered count (ahead lines.entry)) }
+        (calls_gathered count (ahead_in lines.entry)) }
 {
     for _ in 0..count {
         let (call, behind) = lines.next_call()?;
@@ -90,7 +90,7 @@ fn answer_calls<T: Table + Drop>(
     ensures { Comes result (string_bytes out.new)
         (string_bytes out.old
         ++ calls_text terms (length run.old) count
-        (new_session (T.Table.contents table).capacity) (ahead lines.entry)) }
+        (new_session (T.Table.contents table).capacity) (ahead_in lines.entry)) }
 {
     let mut calls = Vec::new(heap);
     let read = read_calls(lines, count, &mut calls);

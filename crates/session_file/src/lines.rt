@@ -26,7 +26,7 @@ pub struct TermsSection {
 }
 
 impl<'a> Lines<'a> {
-    ghost use Rattle.session_file.specs.Lines.{ahead, ahead_of, cut_off, found, first_ahead, first_line, number_line, call_line, terms_section, ending};
+    ghost use Rattle.session_file.specs.Lines.{ahead_in, ahead_of, cut_off, found, first_ahead, first_line, number_line, call_line, terms_section, ending};
 
     pub fn new(file: &'a [u8]) -> Result<Lines<'a>, Fault>
         ensures { ahead_of result ≡ first_ahead file.now }
@@ -41,7 +41,7 @@ impl<'a> Lines<'a> {
     }
 
     fn first_line(self) -> Result<(&'a [u8], Lines<'a>), Fault>
-        ensures { cut_off result ≡ first_line (ahead self.entry) }
+        ensures { cut_off result ≡ first_line (ahead_in self.entry) }
     {
         let (line, rest) = cut_at(self.rest, b'\n').ok_or(Fault::in_line(self.line))?;
         let behind = Lines {
@@ -53,7 +53,7 @@ impl<'a> Lines<'a> {
 
     // The number that the first line is, and the lines behind it.
     pub fn next_number(self) -> Result<(u32, Lines<'a>), Fault>
-        ensures { found result ≡ number_line (ahead self.entry) }
+        ensures { found result ≡ number_line (ahead_in self.entry) }
     {
         let (line, behind) = self.first_line()?;
         let n = read_number(line).ok_or(Fault::in_line(self.line))?;
@@ -62,7 +62,7 @@ impl<'a> Lines<'a> {
 
     // The call that the first line reads as, and the lines behind it.
     pub fn next_call(self) -> Result<(Call, Lines<'a>), Fault>
-        ensures { found result ≡ call_line (ahead self.entry) }
+        ensures { found result ≡ call_line (ahead_in self.entry) }
     {
         let (line, behind) = self.first_line()?;
         let call = read_call(line).ok_or(Fault::in_line(self.line))?;
@@ -71,7 +71,7 @@ impl<'a> Lines<'a> {
 
     // The section of the terms, and the lines behind it.
     pub fn next_terms(self) -> Result<(TermsSection, Lines<'a>), Fault>
-        ensures { found result ≡ terms_section (ahead self.entry) }
+        ensures { found result ≡ terms_section (ahead_in self.entry) }
     {
         let (count, behind) = self.next_number()?;
         if count != 2 {
@@ -84,7 +84,7 @@ impl<'a> Lines<'a> {
 
     // Nothing may be left behind the last call.
     pub fn end(self) -> Result<(), Fault>
-        ensures { result ≡ ending (ahead self.entry) }
+        ensures { result ≡ ending (ahead_in self.entry) }
     {
         if self.rest.is_empty() {
             Ok(())

@@ -1,6 +1,6 @@
 ghost use Rattle.std.specs.Prelude.{◌≡◌, ◌≤◌};
 ghost use Rattle.rules.specs.Band.{band};
-ghost use Rattle.rules.specs.Terms.{answer, terms_of};
+ghost use Rattle.rules.specs.Terms.{terms_answer, terms_of};
 
 use crate::refusal::Refusal;
 use crate::terms::Terms;
@@ -15,7 +15,7 @@ fn band_around(r: u32) -> (u32, u32)
 
 impl Terms {
     pub fn new(reference: u32, block: u32) -> Result<Terms, Refusal>
-        ensures { answer result ≡ terms_of reference block }
+        ensures { terms_answer result ≡ terms_of reference block }
     {
         if !(1..=1_000_000).contains(&reference) {
             return Err(Refusal::Reference);
