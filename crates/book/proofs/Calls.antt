@@ -40,7 +40,7 @@ use Rattle.book.proofs.Ranks.{InRank, without_in, insert_in, in_insert, none_num
 use Rattle.book.proofs.Accounts.{put_same, put_other, live_same, Off, Dead, Besides, besides_without, besides_none, besides_close, besides_insert, down, down_off, down_at, down_live, down_against, not_both}
 use Rattle.book.proofs.Trades.{Listed, SweptRight, sweep_right, pos, stand}
 use Rattle.book.proofs.Strike.{traded_append}
-use Rattle.book.proofs.Sided.{sided, table_of, side_against, sided_same, fits_sided, NoneHas, takes_sided, added_sided, dealt_table, removed_sided, times_some, length-without}
+use Rattle.book.proofs.Sided.{sided, table_of, side_against, sided_same, fits_sided, NoneHas, takes_sided, added_sided, with_rest_table, removed_sided, times_some, length-without}
 use Rattle.book.proofs.Kept.{Opened, AllOpened, Inv, day_at, Kept, Good, post_stage, post_tally, post_append, along_append, opened_put, opened_lower, opened_more, opened_post, Apart, apart_of, shown_of, unsettled, is_open_true, settled_open, found_live, limit_of, Limit, uncrossed_of}
 
 -- Withdraw ----------------------------------------------------------------------------------------------------------------
@@ -152,7 +152,7 @@ uninsert d L o own s h ex =
     }
 
 -- the order after its sweep, by whether it is a market order
-settled_as :
+after_sweep_as :
     (e : Order) (T : Contents) (s : Sweep) →
     after_sweep e T s ≡
     cond e.market
@@ -163,7 +163,7 @@ settled_as :
       table = with_rest e.direction s.rest T;
     })
     (record { slips = s.slips; traded = e.volume - s.left; held = s.left; table = with_left e s.left (with_rest e.direction s.rest T) })
-settled_as e T s = go e.market (eqb s.left 0)
+after_sweep_as e T s = go e.market (eqb s.left 0)
   where
     go :
         (m z : Bool) →
@@ -264,7 +264,7 @@ module _ (M : Ledger) (tab : Contents) (e : Order) (own opp : List Order) (last 
     -- the table with what is left of the entering order
     placed_is : with_left e s.left (with_rest e.direction s.rest (table_of tab e.direction own opp)) ≡ table_of tab e.direction (stand d e s.left own) s.rest
     placed_is =
-        ap (with_left e s.left) (dealt_table tab e.direction own opp s.rest) ∙
+        ap (with_left e s.left) (with_rest_table tab e.direction own opp s.rest) ∙
         ⊎_elim
         (λ z.
         cond-true (eqb s.left 0) (table_of tab e.direction own s.rest)
@@ -391,13 +391,13 @@ module _ (M : Ledger) (tab : Contents) (e : Order) (own opp : List Order) (last 
         (subst (Listed d (post_all s.slips M)) (cond-false (eqb s.left 0) own (insert (before d) (with_volume s.left e) own) z) sw.own_side))
 
   -- where orders trade
-  pub arrived_fair :
+  pub trading_fair :
       0 < e.volume →
       M.accounts e.number ≡ Some e →
       Listed e.direction M (insert (before e.direction) e own) →
       Listed (opposite e.direction) M opp →
       Fair continuous M e.number (entry_trading e (table_of tab e.direction own opp))
-  arrived_fair some ac lo la =
+  trading_fair some ac lo la =
       let s : Sweep = sweep d e.number e.price opp e.volume in
       let T : Contents = table_of tab d own opp in
       let start : Listed d M (stand d e e.volume own) =
@@ -407,20 +407,20 @@ module _ (M : Ledger) (tab : Contents) (e : Order) (own opp : List Order) (last 
       sweep_right d e own opp e.volume M start la ac last clear
       in
       subst (λ xs. Fair continuous M e.number (after_sweep e T (sweep d e.number e.price xs e.volume))) (sym (side_against d own opp))
-      (subst (Fair continuous M e.number) (sym (settled_as e T s))
+      (subst (Fair continuous M e.number) (sym (after_sweep_as e T s))
       (cond_both _ _ _ (Fair continuous M e.number)
       (λ mk.
       let more : List Slip = s.slips ++ cond (eqb s.left 0) [] (Lapse e.number s.left ∷ []) in
       subst
       (λ (X : Contents). Fair continuous M e.number (record { slips = more; traded = e.volume - s.left; held = 0; table = X }))
-      (sym (dealt_table tab e.direction own opp s.rest)) (market_fair s sw mk))
+      (sym (with_rest_table tab e.direction own opp s.rest)) (market_fair s sw mk))
       (λ mk.
       subst
       (λ (X : Contents). Fair continuous M e.number (record { slips = s.slips; traded = e.volume - s.left; held = s.left; table = X }))
       (sym (placed_is s sw)) (limit_fair s sw mk))))
 
 -- where nothing trades
-queued_fair :
+resting_fair :
     (m : Mode) (M : Ledger) (tab : Contents) (e : Order) (own opp : List Order) →
     M.accounts e.number ≡ Some e →
     Listed e.direction M (insert (before e.direction) e own) →
@@ -432,7 +432,7 @@ queued_fair :
     length own < tab.capacity.places →
     length opp ≤ tab.capacity.places →
     Fair m M e.number (entry_resting e (table_of tab e.direction own opp))
-queued_fair m M tab e own opp ac lo la gap f g taken room opp-fits =
+resting_fair m M tab e own opp ac lo la gap f g taken room opp-fits =
     let d : Direction = e.direction in
     subst (λ (X : Contents). Fair m M e.number (record { slips = []; traded = 0; held = e.volume; table = X }))
     (sym (added_sided tab e own opp taken))
@@ -478,11 +478,11 @@ module _ (t : Terms) (L : Ledger) (c : Call) (M : Ledger) (n : ℕ) (reply : Tel
       }
 
 -- dealing is no fixing
-pub dealing_none : (t : Terms) (L : Ledger) (s : Stage) (slips : List Slip) → FixingRight t L (entry_mode s) slips
-dealing_none t L PreOpen slips = tt
-dealing_none t L Open slips = tt
-dealing_none t L PreClose slips = tt
-dealing_none t L Closed slips = tt
+pub entry_mode_none : (t : Terms) (L : Ledger) (s : Stage) (slips : List Slip) → FixingRight t L (entry_mode s) slips
+entry_mode_none t L PreOpen slips = tt
+entry_mode_none t L Open slips = tt
+entry_mode_none t L PreClose slips = tt
+entry_mode_none t L Closed slips = tt
 
 -- The ledger's words and the model's -----------------------------------------------------------------------------------------------
 
@@ -505,8 +505,8 @@ renews_is : (a b : Bool) → (not a || b) ≡ cond a b true
 renews_is true b = refl
 renews_is false b = refl
 
-pub moves_is : (a : Alteration) (o : Order) → takes_new_arrival a o ≡ renews a o
-moves_is a o =
+pub takes_new_arrival_is : (a : Alteration) (o : Order) → takes_new_arrival a o ≡ renews a o
+takes_new_arrival_is a o =
     ap (λ b. not b || ltb o.volume a.volume) (eqb_swap a.price o.price) ∙
     renews_is (eqb o.price a.price) (ltb o.volume a.volume)
 
@@ -545,7 +545,7 @@ alter_on a o L b e =
     at false = refl
 
 pub alter_is : (a : Alteration) (o : Order) (L : Ledger) → alter_ledger a o L ≡ alter_account a (Some o) L
-alter_is a o L = alter_on a o L (renews a o) (moves_is a o)
+alter_is a o L = alter_on a o L (renews a o) (takes_new_arrival_is a o)
 
 -- Enter ------------------------------------------------------------------------------------------------------------------------
 
@@ -629,13 +629,13 @@ module _ (t : Terms) (L : Ledger) (tab : Contents) (inv : Inv t L tab) where
       let trading : L.stage ≡ Open = is_open_true L.stage is-o in
       let calm : IsSettled L.stage = settled_open L.stage trading in
       kept continuous (entry_trading e T) (ap entry_mode trading) tt
-      (arrived_fair M tab e own opp refl (listing (inv.shown.sides d)).sorted
+      (trading_fair M tab e own opp refl (listing (inv.shown.sides d)).sorted
       (λ x m. none_next d x ((listing (inv.shown.sides d)).sound x m))
       (apart_of L tab.book inv.shown calm d) (limit_of L tab.book inv.shown calm d)
       (limit_of L tab.book inv.shown calm (opposite d)) place (inv.fits (opposite d)) some ac lo la))
       (λ not-o.
-      kept (entry_mode L.stage) (entry_resting e T) refl (dealing_none t L L.stage [])
-      (queued_fair (entry_mode L.stage) M tab e own opp ac lo la
+      kept (entry_mode L.stage) (entry_resting e T) refl (entry_mode_none t L L.stage [])
+      (resting_fair (entry_mode L.stage) M tab e own opp ac lo la
       (λ h. absurd (unsettled L.stage not-o k.closed h)) (λ h. absurd (unsettled L.stage not-o k.closed h))
       (λ h. absurd (unsettled L.stage not-o k.closed h)) taken place (inv.fits (opposite d))))))
 
@@ -709,13 +709,13 @@ module _ (t : Terms) (L : Ledger) (tab : Contents) (inv : Inv t L tab) where
       ap (λ b. cond b (suc L.tally) o.arrival) moved ∙ sym (ap (λ b. cond b (suc L.tally) L.tally) moved)
       in
       kept continuous (entry_trading e T) (ap entry_mode trading) tt
-      (arrived_fair M tab e own opp last
+      (trading_fair M tab e own opp last
       (besides_without n d L old (listing (inv.shown.sides d))).sorted fresh
       (clear calm) (limits calm) (limit_of L tab.book inv.shown calm (opposite d)) place (inv.fits (opposite d))
       some ac lo la))
       (λ h.
-      kept (entry_mode L.stage) (entry_resting e T) refl (dealing_none t L L.stage [])
-      (queued_fair (entry_mode L.stage) M tab e own opp ac lo la
+      kept (entry_mode L.stage) (entry_resting e T) refl (entry_mode_none t L L.stage [])
+      (resting_fair (entry_mode L.stage) M tab e own opp ac lo la
       (λ k y z m i.
       ⊎_elim
       (λ q.

@@ -21,7 +21,7 @@ use Rattle.book.specs.Marks.{Session, session_after, last_price, first_at, mark_
 use Rattle.book.specs.Model.{day_after, what_came}
 use Rattle.book.specs.Ending.{last_in, last_trade_of, best_listed, is_price, looked_at, throughout, reference_at, EndsByJournal}
 use Rattle.book.specs.Ledger.{Ledger, feed}
-use Rattle.book.proofs.Kept.{post_stage, stage_after, feed_stage}
+use Rattle.book.proofs.Kept.{post_stage, stage_followed, feed_stage}
 use Rattle.book.proofs.Leading.{leads_agrees}
 
 last_is : (p : Option ℕ) (ss : List Slip) → last_price p ss ≡ option_or (last_in ss) p
@@ -47,7 +47,7 @@ swap false true = refl
 swap false false = refl
 
 marks_on : (stage : Stage) (c : Call) (mark now' stood : Bool) → Marked stage mark stood
-    → Marked (stage_after stage c) (mark_on stage c mark now') (cond (looked_at stage c) now' true && stood)
+    → Marked (stage_followed stage c) (mark_on stage c mark now') (cond (looked_at stage c) now' true && stood)
 marks_on PreOpen Advance mark now' stood h = sym (ap (λ x. now' && x) h ∙ swap now' true)
 marks_on PreOpen c mark now' stood h = h
 marks_on Open Advance mark now' stood h = h
@@ -63,9 +63,9 @@ best_is p [] = refl
 best_is p (o ∷ os) = refl
 
 marks_best : (stage : Stage) (c : Call) (mark stood : Bool) (p : ℕ) (os : List Order) → Marked stage mark stood
-    → Marked (stage_after stage c) (mark_on stage c mark (first_at p os)) (cond (looked_at stage c) (is_price p (best_listed os)) true && stood)
+    → Marked (stage_followed stage c) (mark_on stage c mark (first_at p os)) (cond (looked_at stage c) (is_price p (best_listed os)) true && stood)
 marks_best stage c mark stood p os h =
-    subst (λ b. Marked (stage_after stage c) (mark_on stage c mark (first_at p os)) (cond (looked_at stage c) b true && stood)) (best_is p os)
+    subst (λ b. Marked (stage_followed stage c) (mark_on stage c mark (first_at p os)) (cond (looked_at stage c) b true && stood)) (best_is p os)
     (marks_on stage c mark (first_at p os) stood h)
 
 -- the marks say what the journal says
@@ -84,17 +84,17 @@ module _ (t : Terms) (past : List Line) (b : Session) (x : Try) (g : Says t past
   one_more (refused_by n) e = record { last = g.last; high = g.high; low = g.low }
   one_more (done after a slips) e =
       let L : Ledger = books t past in
-      let stage : after.stage ≡ stage_after L.stage x.call = e ∙ post_stage slips (feed t (feed_of x.call a) L) ∙ feed_stage t x.call a L in
-      let from : stage_after b.day.stage x.call ≡ after.stage = ap (λ s. stage_after s x.call) same ∙ sym stage in
+      let stage : after.stage ≡ stage_followed L.stage x.call = e ∙ post_stage slips (feed t (feed_of x.call a) L) ∙ feed_stage t x.call a L in
+      let from : stage_followed b.day.stage x.call ≡ after.stage = ap (λ s. stage_followed s x.call) same ∙ sym stage in
       record {
         last = last_is b.marks.last_trade slips ∙ ap (option_or (last_in slips)) g.last;
         high =
             subst (λ s. Marked s (mark_on b.day.stage x.call b.marks.buy_at_high (first_at t.hi after.table.book.buys)) (cond (looked_at L.stage x.call) (is_price t.hi (best_listed after.table.book.buys)) true && throughout t Buy t.hi past)) from
-            (subst (λ s. Marked (stage_after b.day.stage x.call) (mark_on b.day.stage x.call b.marks.buy_at_high (first_at t.hi after.table.book.buys)) (cond (looked_at s x.call) (is_price t.hi (best_listed after.table.book.buys)) true && throughout t Buy t.hi past)) same
+            (subst (λ s. Marked (stage_followed b.day.stage x.call) (mark_on b.day.stage x.call b.marks.buy_at_high (first_at t.hi after.table.book.buys)) (cond (looked_at s x.call) (is_price t.hi (best_listed after.table.book.buys)) true && throughout t Buy t.hi past)) same
             (marks_best b.day.stage x.call b.marks.buy_at_high (throughout t Buy t.hi past) t.hi after.table.book.buys g.high));
         low =
             subst (λ s. Marked s (mark_on b.day.stage x.call b.marks.sell_at_low (first_at t.lo after.table.book.sells)) (cond (looked_at L.stage x.call) (is_price t.lo (best_listed after.table.book.sells)) true && throughout t Sell t.lo past)) from
-            (subst (λ s. Marked (stage_after b.day.stage x.call) (mark_on b.day.stage x.call b.marks.sell_at_low (first_at t.lo after.table.book.sells)) (cond (looked_at s x.call) (is_price t.lo (best_listed after.table.book.sells)) true && throughout t Sell t.lo past)) same
+            (subst (λ s. Marked (stage_followed b.day.stage x.call) (mark_on b.day.stage x.call b.marks.sell_at_low (first_at t.lo after.table.book.sells)) (cond (looked_at s x.call) (is_price t.lo (best_listed after.table.book.sells)) true && throughout t Sell t.lo past)) same
             (marks_best b.day.stage x.call b.marks.sell_at_low (throughout t Sell t.lo past) t.lo after.table.book.sells g.low));
       }
 

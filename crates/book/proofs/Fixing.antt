@@ -198,10 +198,10 @@ pub match_short : (price : Option ℕ) (bs ss : List Order) → (length (match_a
 match_short None bs ss = (omega arith, omega arith)
 match_short (Some p) bs ss = pair_short p (length bs + length ss) bs ss
 
-pub limits_short : (xs : List Order) → length (limit_orders xs) ≤ length xs
-limits_short [] = omega arith
-limits_short (o ∷ xs) =
-    let h = limits_short xs in
+pub limit_orders_short : (xs : List Order) → length (limit_orders xs) ≤ length xs
+limit_orders_short [] = omega arith
+limit_orders_short (o ∷ xs) =
+    let h = limit_orders_short xs in
     cond_both o.market (limit_orders xs) (o ∷ limit_orders xs) (λ l. length l ≤ suc (length xs)) (λ _. omega arith) (λ _. omega arith)
 
 -- The price ------------------------------------------------------------------------------------------------------------------------

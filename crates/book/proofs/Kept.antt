@@ -72,15 +72,15 @@ post_stage (Trade b s q v ∷ ss) L = post_stage ss (post (Trade b s q v) L)
 post_stage (Lapse n v ∷ ss) L = post_stage ss (post (Lapse n v) L)
 
 -- the stage after an accepted call
-abbrev pub stage_after : Stage → Call → Stage
-stage_after stage Advance = following stage
-stage_after stage _ = stage
+abbrev pub stage_followed : Stage → Call → Stage
+stage_followed stage Advance = following stage
+stage_followed stage _ = stage
 
 alter_stage : (a : Alteration) (x : Option Order) (L : Ledger) → (alter_account a x L).stage ≡ L.stage
 alter_stage a None L = refl
 alter_stage a (Some o) L = cond_both (renews a o) (renew a o L) (keep a o L) (λ M. M.stage ≡ L.stage) (λ _. refl) (λ _. refl)
 
-pub feed_stage : (t : Terms) (c : Call) (a : Answer Told) (L : Ledger) → (feed t (feed_of c a) L).stage ≡ stage_after L.stage c
+pub feed_stage : (t : Terms) (c : Call) (a : Answer Told) (L : Ledger) → (feed t (feed_of c a) L).stage ≡ stage_followed L.stage c
 feed_stage t (Alter x) a L = alter_stage x (L.accounts x.number) L
 feed_stage t _ a L = refl
 

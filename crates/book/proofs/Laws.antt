@@ -30,12 +30,12 @@ use Rattle.book.proofs.Accounts.{not_both}
 use Rattle.book.proofs.Sided.{fits_sided}
 use Rattle.book.proofs.Kept.{sides_of, Opened, Inv, day_at, Good, limit_live, post_stage, post_tally, post_append, along_append, opened_post}
 use Rattle.book.proofs.Calls.{withdraw_good, enter_good, alter_good}
-use Rattle.book.proofs.Strike.{PairedRight, match_right, Limited, side_lapses, limits_limit, turnover-traded, uncrossed_lapses, traded_append, traded-lapses}
+use Rattle.book.proofs.Strike.{PairedRight, match_right, Limited, side_lapses, limit_orders_limit, turnover-traded, uncrossed_lapses, traded_append, traded-lapses}
 use Rattle.rules.specs.Allotment.{Allotment, Idle}
 use Rattle.rules.specs.Curve.{tradable, surplus}
 use Rattle.rules.proofs.Allots.{allotment_bound, allotment_most}
 use Rattle.book.proofs.Depths.{tradable_is, surplus_is}
-use Rattle.book.proofs.Fixing.{match_short, limits_short, Price, Sane, fixing_right, most_traded, left_apart}
+use Rattle.book.proofs.Fixing.{match_short, limit_orders_short, Price, Sane, fixing_right, most_traded, left_apart}
 
 -- the accounts are the same
 pub live_as : (d : Direction) (L M : Ledger) → M.accounts ≡ L.accounts → (o : Order) → Live d L o → Live d M o
@@ -158,7 +158,7 @@ module _ (t : Terms) (L : Ledger) (tab : Contents) (inv : Inv t L tab) where
       let O : Ledger = post_all (lapses p.buys) N in
       let ls : Limited price Sell O p.sells (limit_orders p.buys) =
       side_lapses price Sell p.sells (limit_orders p.buys) O lb.against lb.own_side (uncrossed_lapses p.buys N un)
-      (λ _ x l. limits_limit price p.buys x (lb.own_side.complete x l))
+      (λ _ x l. limit_orders_limit price p.buys x (lb.own_side.complete x l))
       in
       let Q : Ledger = post_all (lapses p.sells) O in
       let end : post_all slips M ≡ Q =
@@ -184,7 +184,7 @@ module _ (t : Terms) (L : Ledger) (tab : Contents) (inv : Inv t L tab) where
                     limit =
                         λ _.
                         limit_live Q Buy (limit_orders p.buys) (limit_orders p.sells) ls.against ls.own_side
-                        (limits_limit price p.buys) (limits_limit price p.sells);
+                        (limit_orders_limit price p.buys) (limit_orders_limit price p.sells);
                   });
             });
         opened = opened_post t slips M inv.opened;
@@ -192,8 +192,8 @@ module _ (t : Terms) (L : Ledger) (tab : Contents) (inv : Inv t L tab) where
         tally = sym (post_tally slips M);
         fits =
             (let k = match_short price buys sells in
-            fits_sided tab Buy (limit_orders p.buys) (limit_orders p.sells) (omega (arith, k.0, limits_short p.buys, inv.fits Buy))
-            (omega (arith, k.1, limits_short p.sells, inv.fits Sell)));
+            fits_sided tab Buy (limit_orders p.buys) (limit_orders p.sells) (omega (arith, k.0, limit_orders_short p.buys, inv.fits Buy))
+            (omega (arith, k.1, limit_orders_short p.sells, inv.fits Sell)));
       }
 
 -- Each call, each history -------------------------------------------------------------------------------------------------------

@@ -22,7 +22,7 @@ use Rattle.book.specs.Pinned.{refusal, SameRefusals, Pinned}
 use Rattle.book.proofs.Members.{listing}
 use Rattle.book.proofs.Ranks.{before_irrefl, before_trans}
 use Rattle.book.proofs.Accounts.{not_both}
-use Rattle.book.proofs.Kept.{post_stage, stage_after, feed_stage}
+use Rattle.book.proofs.Kept.{post_stage, stage_followed, feed_stage}
 use Rattle.book.proofs.Split.{exactly_unique}
 use Rattle.book.proofs.Arrivals.{Arrivals, arrivals, arrivals_feed, arrivals_post, arrival_one}
 
@@ -36,18 +36,18 @@ module _ (t : Terms) (L : Ledger) where
   price_one (Some P) None xs ys a b f g = a.without (b.nothing refl)
   price_one (Some P) (Some Q) xs ys a b f g = ap Some (one_price t.reference t.lo t.hi (live_book L) t.low t.high P Q f g)
 
-  advancing_one :
+  strike_mode_one :
       (s : Stage) (p q : Option ℕ) (xs ys : List Slip) → FixingRight t L (strike_mode s p) xs → FixingRight t L (strike_mode s q) ys →
       strike_mode s p ≡ strike_mode s q
-  advancing_one PreOpen p q xs ys a b = ap fixing_at (price_one p q xs ys a.0 b.0 a.1 b.1)
-  advancing_one Open p q xs ys a b = refl
-  advancing_one PreClose p q xs ys a b = ap fixing_at (price_one p q xs ys a.0 b.0 a.1 b.1)
-  advancing_one Closed p q xs ys a b = refl
+  strike_mode_one PreOpen p q xs ys a b = ap fixing_at (price_one p q xs ys a.0 b.0 a.1 b.1)
+  strike_mode_one Open p q xs ys a b = refl
+  strike_mode_one PreClose p q xs ys a b = ap fixing_at (price_one p q xs ys a.0 b.0 a.1 b.1)
+  strike_mode_one Closed p q xs ys a b = refl
 
   mode_one :
       (c : Call) (p q : Option ℕ) (xs ys : List Slip) → FixingRight t L (mode L.stage c p) xs →
       FixingRight t L (mode L.stage c q) ys → mode L.stage c p ≡ mode L.stage c q
-  mode_one Advance p q xs ys a b = advancing_one L.stage p q xs ys a b
+  mode_one Advance p q xs ys a b = strike_mode_one L.stage p q xs ys a b
   mode_one _ p q xs ys a b = refl
 
 -- The slips ---------------------------------------------------------------------------------------------------------------------
@@ -155,23 +155,23 @@ quiet_none L (Lapse n v ∷ xs) h = absurd h.0.may
 
 -- One call ------------------------------------------------------------------------------------------------------------------------
 
-dealing_busy : (s : Stage) → (entry_mode s ≡ quiet) ⊎ IsSettled s
-dealing_busy PreOpen = inl refl
-dealing_busy Open = inr tt
-dealing_busy PreClose = inl refl
-dealing_busy Closed = inl refl
+entry_mode_busy : (s : Stage) → (entry_mode s ≡ quiet) ⊎ IsSettled s
+entry_mode_busy PreOpen = inl refl
+entry_mode_busy Open = inr tt
+entry_mode_busy PreClose = inl refl
+entry_mode_busy Closed = inl refl
 
-advancing_busy : (s : Stage) (p : Option ℕ) → (strike_mode s p ≡ quiet) ⊎ IsSettled (following s)
-advancing_busy PreOpen p = inr tt
-advancing_busy Open p = inl refl
-advancing_busy PreClose p = inr tt
-advancing_busy Closed p = inl refl
+strike_mode_busy : (s : Stage) (p : Option ℕ) → (strike_mode s p ≡ quiet) ⊎ IsSettled (following s)
+strike_mode_busy PreOpen p = inr tt
+strike_mode_busy Open p = inl refl
+strike_mode_busy PreClose p = inr tt
+strike_mode_busy Closed p = inl refl
 
 -- where slips are written, the stage after them is settled
-busy_after : (s : Stage) (c : Call) (p : Option ℕ) → (mode s c p ≡ quiet) ⊎ IsSettled (stage_after s c)
-busy_after s (Enter e) p = dealing_busy s
-busy_after s (Alter a) p = dealing_busy s
-busy_after s Advance p = advancing_busy s p
+busy_after : (s : Stage) (c : Call) (p : Option ℕ) → (mode s c p ≡ quiet) ⊎ IsSettled (stage_followed s c)
+busy_after s (Enter e) p = entry_mode_busy s
+busy_after s (Alter a) p = entry_mode_busy s
+busy_after s Advance p = strike_mode_busy s p
 busy_after s _ p = inl refl
 
 busy : (t : Terms) (L : Ledger) (c : Call) (a : Answer Told) (p : Option ℕ) → (mode L.stage c p ≡ quiet) ⊎ IsSettled (feed t (feed_of c a) L).stage

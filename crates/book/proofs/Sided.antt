@@ -84,8 +84,8 @@ module _ (t : Contents) (e : Order) (own against : List Order) where
       (table_of t e.direction own against) h ∙
       ap (holding t) (put_sided e.direction own against (insert (before e.direction) e))
 
-pub dealt_table : (t : Contents) (d : Direction) (own against rest : List Order) → with_rest d rest (table_of t d own against) ≡ table_of t d own rest
-dealt_table t d own against rest = ap (holding t) (dealt_sided d own against rest)
+pub with_rest_table : (t : Contents) (d : Direction) (own against rest : List Order) → with_rest d rest (table_of t d own against) ≡ table_of t d own rest
+with_rest_table t d own against rest = ap (holding t) (dealt_sided d own against rest)
 
 -- Removal ----------------------------------------------------------------------------------------------------------------
 

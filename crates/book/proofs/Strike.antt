@@ -227,12 +227,12 @@ module _ (price : Option ℕ) where
       (λ _ k. inr (limits_in xs x k))
       (λ _ k. ⊎_elim inl (λ j. inr (limits_in xs x j)) k) m
 
-  pub limits_limit : (xs : List Order) (x : Order) → Member x (limit_orders xs) → x.market ≡ false
-  limits_limit [] x m = absurd m
-  limits_limit (o ∷ xs) x m =
+  pub limit_orders_limit : (xs : List Order) (x : Order) → Member x (limit_orders xs) → x.market ≡ false
+  limit_orders_limit [] x m = absurd m
+  limit_orders_limit (o ∷ xs) x m =
       cond_both o.market (limit_orders xs) (o ∷ limit_orders xs) (λ l. Member x l → x.market ≡ false)
-      (λ _ k. limits_limit xs x k)
-      (λ e k. ⊎_elim (λ q. ap (λ (z : Order). z.market) q ∙ e) (λ j. limits_limit xs x j) k) m
+      (λ _ k. limit_orders_limit xs x k)
+      (λ e k. ⊎_elim (λ q. ap (λ (z : Order). z.market) q ∙ e) (λ j. limit_orders_limit xs x j) k) m
 
   limits_sorted : (d : Direction) (xs : List Order) → InRank d xs → InRank d (limit_orders xs)
   limits_sorted d [] s = refl

@@ -44,8 +44,8 @@ answering f (refused_by n) = refused_by n
 answering f (done day a slips) = done day (f a) slips
 
 -- another thing told
-abbrev telling : (Told → Told) → Outcome → Outcome
-telling f out = answering (λ a. record a { told = f a.told }) out
+abbrev with_told : (Told → Told) → Outcome → Outcome
+with_told f out = answering (λ a. record a { told = f a.told }) out
 
 abbrev one_up : Told → Told
 one_up (Entered x) = Entered (record x { number = suc x.number })
@@ -53,7 +53,7 @@ one_up told = told
 
 -- enter answers a number that is not the order's
 abbrev pub wrong_number : Step
-wrong_number t day c room = telling one_up (step t day c room)
+wrong_number t day c room = with_told one_up (step t day c room)
 
 abbrev miscounted : Answer Told → Answer Told
 miscounted a = record a { slips = 0 }
@@ -70,7 +70,7 @@ no_volume_of told = told
 
 -- every call answers that nothing was traded
 abbrev pub no_volume : Step
-no_volume t day c room = telling no_volume_of (step t day c room)
+no_volume t day c room = with_told no_volume_of (step t day c room)
 
 abbrev one_less : Told → Told
 one_less (Withdrawn x) = Withdrawn (record { volume = x.volume - 1 })
@@ -78,7 +78,7 @@ one_less told = told
 
 -- withdraw answers less than it takes
 abbrev pub part_withdrawal : Step
-part_withdrawal t day c room = telling one_less (step t day c room)
+part_withdrawal t day c room = with_told one_less (step t day c room)
 
 abbrev with_price : Told → Told
 with_price (Advanced x) = Advanced (record x { price = option_or x.price (Some 1) })
@@ -86,7 +86,7 @@ with_price told = told
 
 -- there is always a price
 abbrev pub always_priced : Step
-always_priced t day c room = telling with_price (step t day c room)
+always_priced t day c room = with_told with_price (step t day c room)
 
 -- One call changed ----------------------------------------------------------------------------------------------------
 
@@ -94,14 +94,16 @@ always_priced t day c room = telling with_price (step t day c room)
 abbrev pub Other : Type 0
 Other = Terms → Day → Call → Option Made
 
+-- what is made, if anything is
 abbrev pub done_or : Option Made → Outcome → Outcome
 done_or None out = out
 done_or (Some m) out = outcome_of m
 
--- the rules, but for what the other rule makes; that it never refuses
+-- the rules, but for what the other rule makes; what it makes is never refused
 abbrev pub but_for : Other → Step
 but_for f t day c room = done_or (f t day c) (step t day c room)
 
+-- another rule for one call alone
 abbrev pub of_enter : (Terms → Day → NewOrder → Option Made) → Other
 of_enter f t day (Enter e) = f t day e
 of_enter f t day _ = None
@@ -114,6 +116,7 @@ abbrev pub of_advance : (Terms → Day → Option Made) → Other
 of_advance f t day Advance = f t day
 of_advance f t day _ = None
 
+-- made only where the test holds
 abbrev pub only_if : Bool → Made → Option Made
 only_if b m = cond b (Some m) None
 

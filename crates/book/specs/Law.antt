@@ -101,12 +101,14 @@ pub data Mode : Type 0 where
   -- anything else: nothing trades and nothing lapses
   quiet : Mode
 
+-- an advance fixes where it leaves Pre-open or Pre-close
 abbrev pub strike_mode : Stage → Option ℕ → Mode
 strike_mode PreOpen price = fixing_at price
 strike_mode Open price = quiet
 strike_mode PreClose price = fixing_at price
 strike_mode Closed price = quiet
 
+-- an order that comes trades at once in Open alone
 abbrev pub entry_mode : Stage → Mode
 entry_mode PreOpen = quiet
 entry_mode Open = continuous

@@ -16,6 +16,7 @@ use Rattle.book.specs.Model.{day_after}
 use Rattle.book.specs.Calls.{Outcome, refused_by, done}
 use Rattle.book.specs.Day.{Day, new_day}
 
+-- before the first call
 abbrev pub no_marks : DayRecord
 no_marks = record { last_trade = None; buy_at_high = false; sell_at_low = false }
 
@@ -66,6 +67,7 @@ pub record Session : Type 0 where
 abbrev pub reference_left : Terms → Session → ℕ
 reference_left t s = next_reference_under t (record_left s.day.stage s.marks)
 
+-- a session before its first call
 abbrev pub new_session : Capacity → Session
 new_session cap = record { day = new_day cap; marks = no_marks }
 

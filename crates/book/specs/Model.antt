@@ -27,6 +27,7 @@ day_after_tries f t cap (x ∷ past) =
     let day : Day = day_after_tries f t cap past in
     day_after day (f t day x.call x.room)
 
+-- what the engine says of an outcome: its verdict, and the book after it
 abbrev pub what_came : Day → Outcome → Came
 what_came day out = record { result = result out; book = (day_after day out).table.book }
 

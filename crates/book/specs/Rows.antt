@@ -103,5 +103,6 @@ withdraw_rows day w held =
     ∷ row (holds_of held (λ o. not (w.member == o.member))) 8
     ∷ []
 
+-- an advance is refused by its stage or by its run
 abbrev pub advance_rows : Day → ℕ → List (Option ℕ)
 advance_rows day room = row (is_closed day.stage) 3 ∷ row (short_of_strike day.stage day.table room) 12 ∷ []

@@ -1,5 +1,7 @@
 -- The stages of a day, as the rules of a session have them.
 use Rattle.std.specs.Prelude.{ℕ, Bool, true, false}
+use Rattle.book.specs.declared.call.Call.{Call}
+use Rattle.book.specs.declared.call.Call.TheVariants.{Advance}
 use Rattle.book.specs.declared.stage.Stage.{Stage}
 use Rattle.book.specs.declared.stage.Stage.TheVariants.{PreOpen, Open, PreClose, Closed}
 
@@ -9,6 +11,11 @@ next PreOpen = Open
 next Open = PreClose
 next PreClose = Closed
 next Closed = Closed
+
+-- the stage after an accepted call: only an advance moves on
+abbrev pub stage_after : Stage → Call → Stage
+stage_after stage Advance = next stage
+stage_after stage _ = stage
 
 -- no call is taken any more
 abbrev pub is_closed : Stage → Bool

@@ -47,6 +47,7 @@ with_run c = record { call = c; room = 512 }
 abbrev pub new_order : ℕ → Direction → Option ℕ → ℕ → NewOrder
 new_order member d limit volume = record { member = member; direction = d; limit = limit; volume = volume }
 
+-- an enter, an alter and a withdraw
 abbrev pub enter_call : ℕ → Direction → Option ℕ → ℕ → Call
 enter_call member d limit volume = Enter (new_order member d limit volume)
 

@@ -1,6 +1,8 @@
-// The part of the day, its number, and the one after it.
+// The part of the day, its number, and the one after a call.
 ghost use Rattle.std.specs.Prelude.{◌≡◌};
-ghost use Rattle.book.specs.Stages.{is_open, next, stage_number, strikes};
+ghost use Rattle.book.specs.Stages.{is_open, stage_after, stage_number, strikes};
+
+use crate::call::Call;
 
 #[derive(Clone, Copy, Debug, PartialEq, Eq)]
 pub enum Stage {
@@ -11,15 +13,15 @@ pub enum Stage {
 }
 
 impl Stage {
-    // The next stage of the day; Closed stays Closed.
-    pub fn next(self) -> Stage
-        ensures { result ≡ next self }
+    // After an accepted call: an advance moves to the next stage, any other call stays.
+    pub fn follow(&mut self, call: &Call)
+        ensures { self.new ≡ stage_after self.old call.now }
     {
-        match self {
-            Stage::PreOpen => Stage::Open,
-            Stage::Open => Stage::PreClose,
-            Stage::PreClose => Stage::Closed,
-            Stage::Closed => Stage::Closed,
+        match (self, call) {
+            (stage @ Stage::PreOpen, Call::Advance) => *stage = Stage::Open,
+            (stage @ Stage::Open, Call::Advance) => *stage = Stage::PreClose,
+            (stage @ Stage::PreClose, Call::Advance) => *stage = Stage::Closed,
+            _ => {}
         }
     }
 

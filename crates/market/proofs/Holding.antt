@@ -24,7 +24,7 @@ use Rattle.book.proofs.Gate.{of_step}
 use Rattle.book.proofs.Sided.{length-without}
 use Rattle.market.specs.Kept.{Kept}
 use Rattle.market.proofs.Altering.{found_number}
-use Rattle.market.proofs.Keeping.{Part, part_same, sweep_part, match_part, limits_part, without_part, part_trans}
+use Rattle.market.proofs.Keeping.{Part, part_same, sweep_part, match_part, limit_orders_part, without_part, part_trans}
 
 -- a part of the orders of c
 pub record Fewer (x c : Contents) : Type 0 where
@@ -148,7 +148,7 @@ module _ (day : Day) (h : Kept day) where
       let m : Pairing = fixing_trades t b in
       let p = match_part (fixing_price t b) b.buys b.sells in
       kept_as_many (strike t day).day.stage (strike t day).day.table
-      (of_parts day.table (limit_orders m.buys) (limit_orders m.sells) (part_trans _ m.buys _ (limits_part m.buys) p.0) (part_trans _ m.sells _ (limits_part m.sells) p.1))
+      (of_parts day.table (limit_orders m.buys) (limit_orders m.sells) (part_trans _ m.buys _ (limit_orders_part m.buys) p.0) (part_trans _ m.sells _ (limit_orders_part m.sells) p.1))
 
   kept_step : (t : Terms) (call : Call) (room : ℕ) → Kept (day_after day (step t day call room))
   kept_step t call room =

@@ -69,10 +69,10 @@ pub match_part : (price : Option ℕ) (bs ss : List Order) → Parts bs ss (matc
 match_part None bs ss = (part_same bs, part_same ss)
 match_part (Some p) bs ss = pair_part p (length bs + length ss) bs ss
 
-pub limits_part : (xs : List Order) → Part (limit_orders xs) xs
-limits_part [] = part_same []
-limits_part (x ∷ xs) =
-    let ih = limits_part xs in
+pub limit_orders_part : (xs : List Order) → Part (limit_orders xs) xs
+limit_orders_part [] = part_same []
+limit_orders_part (x ∷ xs) =
+    let ih = limit_orders_part xs in
     cond_both x.market (limit_orders xs) (x ∷ limit_orders xs) (λ ys. Part ys (x ∷ xs)) (λ _. part_more x (limit_orders xs) xs ih) (λ _. part_cons x (limit_orders xs) xs ih)
 
 pub without_part : (n : ℕ) (xs : List Order) → Part (without n xs) xs

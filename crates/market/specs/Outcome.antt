@@ -1,15 +1,11 @@
--- What a call answers, and what it makes of a run and a stage, by the rules.
+-- What a call answers, and what it makes of a run, by the rules.
 use Rattle.std.specs.Prelude.{ℕ, List, ◌++◌, drop, length, Ok, Err, Result}
 use Rattle.rules.specs.Refusal.{number}
 use Rattle.rules.specs.declared.refusal.Refusal.{Refusal}
 use Rattle.book.specs.declared.answer.Answer.{Answer}
 use Rattle.book.specs.declared.answer.Told.{Told}
-use Rattle.book.specs.declared.call.Call.{Call}
-use Rattle.book.specs.declared.call.Call.TheVariants.{Advance}
 use Rattle.book.specs.declared.slip.Slip.{Slip}
-use Rattle.book.specs.declared.stage.Stage.{Stage}
 use Rattle.book.specs.Calls.{Outcome, refused_by, done}
-use Rattle.book.specs.Stages.{next}
 
 -- a result with the refusal by its number
 abbrev pub by_number : {X : Type 0} → Result X Refusal → Result X ℕ
@@ -34,8 +30,3 @@ answer_of (done day a slips) = Ok a
 abbrev pub run_after : List Slip → Outcome → List Slip
 run_after run (refused_by n) = run
 run_after run (done day a slips) = written_into run slips
-
--- only an advance moves to the next stage
-abbrev pub stage_after : Stage → Call → Stage
-stage_after stage Advance = next stage
-stage_after stage _ = stage

@@ -23,6 +23,7 @@ pub record Seen : Type 0 where
 abbrev pub session_start : Terms → Capacity → Seen
 session_start t cap = record { terms = t; session = new_session cap }
 
+-- the try that a call over this run is
 abbrev pub trial : Call → List Slip → Try
 trial call run = record { call = call; room = length run }
 
@@ -32,14 +33,16 @@ pub record Work : Type 0 where
   pub after : Seen
   pub run : List Slip
 
+-- a call came to this
 abbrev pub came_to : Result (Answer Told) ℕ → Seen → List Slip → Work
 came_to answer s run = record { answer = answer; after = s; run = run }
 
+-- what an outcome of the rules makes of a session
 abbrev pub work_by : Seen → Call → List Slip → Outcome → Work
 work_by s call run out =
     came_to (answer_of out) (record { terms = s.terms; session = session_after s.terms call s.session out }) (run_after run out)
 
--- by the rules of the book
+-- what the rules of the book make of it
 abbrev pub by_the_rules : Seen → Call → List Slip → Work
 by_the_rules s call run = work_by s call run (outcome s.terms s.session.day (trial call run))
 

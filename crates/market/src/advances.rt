@@ -5,7 +5,7 @@ ghost use Rattle.book.specs.Calls.{step};
 ghost use Rattle.book.specs.Model.{day_after};
 ghost use Rattle.market.specs.Outcome.{told_as, answer_of, run_after};
 
-use crate::day::{Day, follow};
+use crate::day::Day;
 use crate::strikes::{Struck, strike};
 use book::answer::{Advanced, Answer, Told};
 use book::call::Call;
@@ -34,7 +34,7 @@ impl<T: Table> Day<T> {
                 written: 0,
             }
         };
-        follow(&mut self.stage, &Call::Advance);
+        self.stage.follow(&Call::Advance);
         let told = Advanced {
             stage: self.stage,
             price: struck.price,

@@ -1,9 +1,7 @@
 // The day of a session, which means the rules' day.
 ghost use Rattle.std.specs.Prelude.{◌≡◌};
 ghost use Rattle.book.specs.Day.{new_day};
-ghost use Rattle.market.specs.Outcome.{stage_after};
 
-use book::call::Call;
 use book::stage::Stage;
 use std::marker::Model;
 use tables::table::Table;
@@ -28,18 +26,6 @@ impl<T: Table> Model for Day<T> {
 
     ghost invariant = { λ d.
         Kept (record { stage = d.stage; tally = d.tally; table = T.Table.contents d.table }) };
-}
-
-// An advance moves to the next stage.
-pub fn follow(stage: &mut Stage, call: &Call)
-    ensures { stage.new ≡ stage_after stage.old call.now }
-{
-    match (stage, call) {
-        (stage @ Stage::PreOpen, Call::Advance) => *stage = Stage::Open,
-        (stage @ Stage::Open, Call::Advance) => *stage = Stage::PreClose,
-        (stage @ Stage::PreClose, Call::Advance) => *stage = Stage::Closed,
-        _ => {}
-    }
 }
 
 impl<T: Table> Day<T> {

@@ -58,13 +58,13 @@ fn order_of(terms: &Terms, arrival: u32, new: NewOrder) -> Order
 fn held_left(order: &Order, left: u32) -> u32
     ensures { result ≡ held_of order.now left }
 {
-    if order.market { 0 } else { left }
+    if !order.market { left } else { 0 }
 }
 
 // What is left of an order after its sweep: a limit order stands, a market order lapses. The slips
 // written.
 fn place_left<T: Table>(table: &mut T, order: &Order, left: u32, run: &mut [Slip]) -> usize
-    requires room { takes (T.Table.contents table.old) order.now ≡ true }
+    requires free { takes (T.Table.contents table.old) order.now ≡ true }
     requires place { 0 < length run.old }
     ensures written { result ≡ length (lapse_left order.now left) }
     ensures table { T.Table.contents table.new
@@ -93,7 +93,7 @@ fn place_left<T: Table>(table: &mut T, order: &Order, left: u32, run: &mut [Slip
 // An order of the side S enters in Open.
 fn enter_trading_on<S: Side, T: Table>(table: &mut T, order: Order, run: &mut [Slip]) -> Fill
     requires side { order.direction ≡ S.Quotes.way }
-    requires room { takes (T.Table.contents table.old) order ≡ true }
+    requires free { takes (T.Table.contents table.old) order ≡ true }
     requires long { length (listed (opposite order.direction) (T.Table.contents table.old))
         < length run.old }
     ensures fill { result ≡ fill_of (entry_trading order (T.Table.contents table.old)) }
@@ -113,7 +113,7 @@ fn enter_trading_on<S: Side, T: Table>(table: &mut T, order: Order, run: &mut [S
 
 // Here the side of an order goes from a value to a type.
 pub fn enter_trading<T: Table>(table: &mut T, order: Order, run: &mut [Slip]) -> Fill
-    requires room { takes (T.Table.contents table.old) order ≡ true }
+    requires free { takes (T.Table.contents table.old) order ≡ true }
     requires long { length (listed (opposite order.direction) (T.Table.contents table.old))
         < length run.old }
     ensures fill { result ≡ fill_of (entry_trading order (T.Table.contents table.old)) }
@@ -130,7 +130,7 @@ pub fn enter_trading<T: Table>(table: &mut T, order: Order, run: &mut [Slip]) ->
 
 // An order enters: it trades first, if it is to.
 pub fn enter_order<T: Table>(table: &mut T, order: Order, trades: bool, run: &mut [Slip]) -> Fill
-    requires room { takes (T.Table.contents table.old) order ≡ true }
+    requires free { takes (T.Table.contents table.old) order ≡ true }
     requires long { trades ≡ true
         → length (listed (opposite order.direction) (T.Table.contents table.old))
         < length run.old }

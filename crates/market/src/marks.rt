@@ -44,7 +44,7 @@ fn last_trade(before: Option<u32>, slips: &[Slip]) -> Option<u32>
     last
 }
 
-// A mark begins right after the opening strike, and goes on or ends after each other call in Open.
+// A mark begins right after the opening strike, and goes on or ends after each call in Open but the advance.
 fn mark_on(stage: Stage, call: &Call, old: bool, now: bool) -> bool
     ensures { result ≡ goes_on stage call.now old now }
 {

@@ -86,7 +86,7 @@ impl<T: Table> Day<T> {
     }
 
     // How many orders are held.
-    fn orders(&self) -> usize
+    fn order_count(&self) -> usize
         ensures { result ≡ order_count self.now.table }
     {
         self.table.count(Direction::Buy) + self.table.count(Direction::Sell)
@@ -96,7 +96,7 @@ impl<T: Table> Day<T> {
     fn check_strike(&self, room: usize) -> Result<(), Refusal>
         ensures { refusal_of result ≡ row (short_of_strike self.now.stage self.now.table room) 12 }
     {
-        if self.stage.strikes() && room < self.orders() {
+        if self.stage.strikes() && room < self.order_count() {
             return Err(Refusal::RunTooShort);
         }
         Ok(())

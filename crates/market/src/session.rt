@@ -50,7 +50,7 @@ impl<T: Table> Session<T> {
         }
     }
 
-    // Ends the session, and the table with it. Before Closed it leaves nothing.
+    // Ends the session, and the table with it. Before Closed the reference price stays.
     #[tactic(auto, using(book::proofs::Endings::ends_by_journal))]
     pub fn end(self) -> EndedDay
     where

@@ -4,12 +4,14 @@ use Rattle.report.specs.declared.verdict.Tally.{Tally}
 use Rattle.report.specs.declared.verdict.Verdict.{Verdict}
 use Rattle.report.specs.declared.verdict.Verdict.TheVariants.{Agrees, KnownDifference, Differs}
 
+-- the verdict on two that are the same or not
 abbrev pub plain : Bool → Verdict
 plain same = cond same Agrees Differs
 
 abbrev one_more : ℕ → ℕ
 one_more n = (n + 1) % 2 ^ 64
 
+-- the tally with one verdict more
 abbrev pub tally_after : Verdict → Tally → Tally
 tally_after Agrees t = record { agree = one_more t.agree; known = t.known; differ = t.differ }
 tally_after KnownDifference t = record { agree = t.agree; known = one_more t.known; differ = t.differ }

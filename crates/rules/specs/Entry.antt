@@ -13,6 +13,7 @@ refusal_of (Err e) = Some (number e)
 abbrev pub row : Bool → ℕ → Option ℕ
 row holds n = cond holds (Some n) None
 
+-- one of the sixteen members
 abbrev pub is_member : ℕ → Bool
 is_member member = within 1 16 member
 

@@ -5,11 +5,13 @@ use Rattle.rules.specs.Refusal.{number}
 use Rattle.rules.specs.declared.terms.Terms.{Terms}
 use Rattle.rules.specs.declared.refusal.Refusal.{Refusal}
 
+-- a refusal by its number, or the figures of the terms
 pub data TermsAnswer : Type 0 where
   refused : ℕ → TermsAnswer
   -- reference, block, lowest and highest price
   made : ℕ → ℕ → ℕ → ℕ → TermsAnswer
 
+-- the same of a result
 abbrev pub terms_answer : Result Terms Refusal → TermsAnswer
 terms_answer (Ok t) = made t.reference t.block t.lo t.hi
 terms_answer (Err e) = refused (number e)

@@ -26,15 +26,21 @@ fn put_named(out: &mut Vec<u8>, words: &str, before: u32) -> anyhow::Result<()> 
     Ok(())
 }
 
+fn put_plain(out: &mut Vec<u8>, plain: &str) -> anyhow::Result<()> {
+    ensure!(!plain.contains('}'), "a brace that was not opened");
+    out.extend_from_slice(plain.as_bytes())?;
+    Ok(())
+}
+
 fn put_text(out: &mut Vec<u8>, text: &str, before: u32) -> anyhow::Result<()> {
     let mut parts = text.split('{');
     if let Some(plain) = parts.next() {
-        out.extend_from_slice(plain.as_bytes())?;
+        put_plain(out, plain)?;
     }
     for part in parts {
         let (words, plain) = part.split_once('}').context("a brace is not closed")?;
         put_named(out, words, before)?;
-        out.extend_from_slice(plain.as_bytes())?;
+        put_plain(out, plain)?;
     }
     Ok(())
 }
@@ -64,6 +70,7 @@ impl Case {
     fn read(&mut self, line: &str) -> anyhow::Result<()> {
         let (word, rest) = first_word(line);
         match word {
+            "over:" | "slips:" if !self.file.is_empty() => bail!("a heading behind the file"),
             "over:" => {
                 let places = rest.strip_prefix("a queue of ").context("no queue")?;
                 self.over = Over::Queue(places.parse()?);
@@ -99,6 +106,7 @@ fn read_line(heap: Global, cases: &mut Vec<Case>, line: &str) -> anyhow::Result<
 pub fn read_cases(heap: Global, input: &str) -> anyhow::Result<Vec<Case>>
     ensures { IfOk result (λ cases. vec_len cases ≡ count_by begins_case (lines input.now)) }
 {
+    ensure!(!input.contains('\r'), "byte 13 is written in braces");
     let mut cases = Vec::new(heap);
     for (before, line) in input.lines().enumerate() {
         let number = before.saturating_add(1);

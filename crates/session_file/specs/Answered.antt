@@ -37,6 +37,7 @@ module _ (t : Terms) (room : ℕ) where
   abbrev pub outcome_over : Session → Call → Outcome
   outcome_over s call = outcome t s.day (record { call = call; room = room })
 
+  -- and the session after it
   abbrev pub session_after_call : Session → Call → Session
   session_after_call s call = session_after t call s (outcome_over s call)
 
@@ -59,6 +60,7 @@ under (Ok t) text = text t
 abbrev pub calls_section_text : Capacity → ℕ → Result Terms ℕ → Ahead → List ℕ
 calls_section_text cap room terms ahead = under terms (λ t. reading (number_line ahead) (λ count. calls_text t room count.0 (new_session cap) count.1))
 
+-- both sections
 abbrev pub sections_text : Capacity → ℕ → Ahead → List ℕ
 sections_text cap room ahead = reading (terms_section ahead) (λ s. calls_section_text cap room (terms_from s.0.reference s.0.block) s.1)
 

@@ -32,32 +32,33 @@ cut_line line (Some parts) = Ok (parts.0, record { line = line + 1; text = parts
 
 -- the first line without its byte 10, and what is behind it; a line that is not there is broken too
 abbrev pub first_line : Ahead → Result (List ℕ × Ahead) Fault
-first_line ahead_in = cut_line ahead_in.line (cut 10 ahead_in.text)
+first_line ahead = cut_line ahead.line (cut 10 ahead.text)
 
 abbrev pub or_broken : {X : Type 0} → ℕ → Option X → Ahead → Result (X × Ahead) Fault
 or_broken line None behind = Err (broken line)
 or_broken line (Some x) behind = Ok (x, behind)
 
 abbrev pub number_line : Ahead → Result (ℕ × Ahead) Fault
-number_line ahead_in = first_line ahead_in >>= λ l. or_broken ahead_in.line (number_of l.0) l.1
+number_line ahead = first_line ahead >>= λ l. or_broken ahead.line (number_of l.0) l.1
 
 abbrev pub call_line : Ahead → Result (Call × Ahead) Fault
-call_line ahead_in = first_line ahead_in >>= λ l. or_broken ahead_in.line (call_of l.0) l.1
+call_line ahead = first_line ahead >>= λ l. or_broken ahead.line (call_of l.0) l.1
 
 -- the count 2, the reference price and the block, a line each
 abbrev pub terms_section : Ahead → Result (TermsSection × Ahead) Fault
-terms_section ahead_in =
-    number_line ahead_in >>= λ count.
-    if count.0 == 2 then (number_line count.1 >>= λ reference. number_line reference.1 >>= λ block. Ok (record { reference = reference.0; block = block.0 }, block.1)) else Err (broken ahead_in.line)
+terms_section ahead =
+    number_line ahead >>= λ count.
+    if count.0 == 2 then (number_line count.1 >>= λ reference. number_line reference.1 >>= λ block. Ok (record { reference = reference.0; block = block.0 }, block.1)) else Err (broken ahead.line)
 
 -- nothing may be left
 abbrev pub ending : Ahead → Result (Unit {0}) Fault
-ending ahead_in = if length ahead_in.text == 0 then Ok tt else Err (broken ahead_in.line)
+ending ahead = if length ahead.text == 0 then Ok tt else Err (broken ahead.line)
 
 -- the same of what the code holds
 abbrev pub ahead_in : Lines → Ahead
 ahead_in lines = record { line = lines.line; text = lines.rest.now }
 
+-- and of what it was given, or a fault
 abbrev pub ahead_of : Result Lines Fault → Result Ahead Fault
 ahead_of (Ok lines) = Ok (ahead_in lines)
 ahead_of (Err e) = Err e

@@ -20,6 +20,7 @@ abbrev pub price_or_dash : Option ℕ → List ℕ
 price_or_dash (Some price) = decimal price
 price_or_dash None = codes "-"
 
+-- what a call is told
 abbrev pub told_line : Told → List ℕ
 told_line (Entered x) = spaced (codes "E" ∷ decimal x.number ∷ decimal x.traded ∷ decimal x.held ∷ [])
 told_line (Altered x) = spaced (codes "A" ∷ decimal x.traded ∷ decimal x.held ∷ [])

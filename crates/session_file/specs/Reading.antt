@@ -36,6 +36,7 @@ lettered_side c = if c == 66 then Some Buy else (if c == 83 then Some Sell else 
 abbrev pub side_of : List ℕ → Option Direction
 side_of field = onward (letter_of field) lettered_side
 
+-- a price is a limit
 abbrev pub as_limit : Option ℕ → Option (Option ℕ)
 as_limit None = None
 as_limit (Some n) = Some (Some n)

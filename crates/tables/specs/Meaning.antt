@@ -106,7 +106,7 @@ put_in o t = holding t (inserted o t.book)
 abbrev pub cleared : Contents → Contents
 cleared t = holding t empty
 
--- what a table means after an add, a change of volume and a removal; a refusal leaves it was
+-- what a table means after an add, a change of volume and a removal; a refusal leaves it as it was
 abbrev pub added : Order → Contents → Contents
 added o t = cond (takes t o) (put_in o t) t
 

@@ -4,8 +4,8 @@ use Rattle.book.specs.Calls.{entry_of}
 use Rattle.market.proofs.Altering.{takes_back, other_side}
 use Rattle.market.proofs.alters.enter_again.Goals as goal
 
-pub enter_order-requires-clause-room : goal.enter_order-requires-clause-room
-enter_order-requires-clause-room g c =
+pub enter_order-requires-clause-free : goal.enter_order-requires-clause-free
+enter_order-requires-clause-free g c =
     let h = c.requires.stands in
     takes_back (g.T.Table.contents c.args.table.now) (g.met.T.Table.sound c.args.table.now) h.0 c.args.order h.1 h.2 _ c.remove.ensures.after
 

@@ -10,14 +10,14 @@ use Rattle.market.proofs.Keeping.{sweep_part, takes_still}
 use Rattle.market.proofs.Writing.{length_into, then_written}
 use Rattle.market.proofs.entries.enter_trading_on.Goals as goal
 
-pub place_left-lapsed-requires-clause-room : goal.place_left-lapsed-requires-clause-room
-place_left-lapsed-requires-clause-room g c =
+pub place_left-lapsed-requires-clause-free : goal.place_left-lapsed-requires-clause-free
+place_left-lapsed-requires-clause-free g c =
     let o = c.args.order in
     let t = g.T.Table.contents c.args.table.now in
     let w = sweep_of o t in
     let after = c.sweep-swept.ensures.table ∙ ap (λ d. with_rest d w.rest t) (sym c.requires.side) in
     subst (λ z. takes z o ≡ true) (sym after)
-    (takes_still t o w.rest (sweep_part o.direction o.number o.price (listed (opposite o.direction) t) o.volume) c.requires.room)
+    (takes_still t o w.rest (sweep_part o.direction o.number o.price (listed (opposite o.direction) t) o.volume) c.requires.free)
 
 pub place_left-lapsed-requires-clause-place : goal.place_left-lapsed-requires-clause-place
 place_left-lapsed-requires-clause-place g c =

@@ -4,8 +4,8 @@ use Rattle.market.proofs.Holding.{kept_after}
 use Rattle.market.proofs.Stepping.{takes_entering, entered_day}
 use Rattle.market.proofs.day.Day.enter.Goals as goal
 
-pub enter_order-fill-requires-clause-room : goal.enter_order-fill-requires-clause-room
-enter_order-fill-requires-clause-room g c =
+pub enter_order-fill-requires-clause-free : goal.enter_order-fill-requires-clause-free
+enter_order-fill-requires-clause-free g c =
     takes_entering c.args.terms.now c.args.self.now (length c.args.run.now) _ c.self.view_is c.self.invariant c.args.new
     c.in_ok-check_enter.ensures _ c.order_of-order.ensures
 
