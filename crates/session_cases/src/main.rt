@@ -5,6 +5,8 @@ mod case;
 mod reading;
 mod sessions;
 mod shown;
+#[cfg(test)]
+mod tests;
 mod worked;
 
 use reading::read_cases;

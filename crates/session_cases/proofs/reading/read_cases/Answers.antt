@@ -16,8 +16,8 @@ abbrev counts : ℕ → List ℕ → ℕ
 counts n line = n + cond (begins_case line) 1 0
 
 -- the lines that were gone over are those of the input
-pub returns : goal.returns
-returns c =
+pub returns-2 : goal.returns-2
+returns-2 c =
     let chain = YieldsList-from_enumerate (YieldsList-from_lines c.args.input.now (cc)) (cc) in
     let all = YieldsList-end chain c.loop-before.yielded _ c.loop-before.yielded_by _ _ c.in-None.is c.next.ensures.steps in
     c.loop-before.invariant
