@@ -1,5 +1,5 @@
 // Orders that are altered, and orders that are withdrawn.
-ghost use Rattle.std.specs.Prelude.{◌≡◌, ℕ, ◌+◌, ◌<◌, ◌≤◌, true, List, Some, length};
+ghost use Rattle.std.specs.Prelude.{◌≡◌, ℕ, ◌+◌, ◌<◌, ◌≤◌, true, List, Some, length, Ok};
 ghost use Rattle.rules.specs.Side.{opposite};
 ghost use Rattle.rules.specs.declared.order.Order.{Order};
 ghost use Rattle.rules.specs.declared.terms.Terms.{Terms};
@@ -11,7 +11,7 @@ ghost use Rattle.book.specs.Calls.{entry_of, entry_again, alter as altering, ste
 ghost use Rattle.book.specs.Model.{day_after};
 ghost use Rattle.book.specs.declared.slip.Slip.{Slip};
 ghost use Rattle.market.specs.Fills.{fill_of};
-ghost use Rattle.market.specs.Outcome.{told_as, answer_of, run_after, written_into};
+ghost use Rattle.market.specs.Outcome.{by_number, told_as, answer_of, run_after, written_into};
 
 use crate::day::Day;
 use crate::entries::{Fill, enter_order};
@@ -24,7 +24,12 @@ use rules::terms::Terms;
 use tables::table::Table;
 
 // An order leaves its place and enters again; it trades first, if it is to.
-fn enter_again<T: Table>(table: &mut T, order: Order, trades: bool, run: &mut [Slip]) -> Fill
+fn enter_again<T: Table>(
+    table: &mut T,
+    order: Order,
+    trades: bool,
+    run: &mut [Slip],
+) -> Result<Fill, Refusal>
     requires stands { ((o : Order)
         × (lookup order.number (T.Table.contents table.old).book ≡ Some o)
         × (o.direction ≡ order.direction)) }
@@ -32,31 +37,14 @@ fn enter_again<T: Table>(table: &mut T, order: Order, trades: bool, run: &mut [S
         → length (listed (opposite order.direction) (T.Table.contents table.old))
         < length run.old }
     ensures fill { let out = removed order.number (T.Table.contents table.old) in
-        result ≡ fill_of (entry_of trades order out) }
+        by_number result ≡ Ok (fill_of (entry_of trades order out)) }
     ensures table { let out = removed order.number (T.Table.contents table.old) in
         T.Table.contents table.new ≡ (entry_of trades order out).table }
     ensures run { let out = removed order.number (T.Table.contents table.old) in
         run.new ≡ written_into run.old (entry_of trades order out).slips }
 {
-    let Ok(()) = table.remove(order.number) else {
-        unreachable!()
-    };
+    table.remove(order.number).map_err(|_no| Refusal::NotHeld)?;
     enter_order(table, order, trades, run)
-}
-
-// An order of the same price and no greater volume keeps its place.
-fn keep_place<T: Table>(table: &mut T, order: &Order, volume: u32)
-    requires some { 0 < volume }
-    requires most { volume ≤ order.now.volume }
-    requires found { lookup order.now.number (T.Table.contents table.old).book ≡ Some order.now }
-    ensures { let out = removed order.now.number (T.Table.contents table.old) in
-        T.Table.contents table.new ≡ added (with_volume volume order.now) out }
-{
-    if volume < order.volume {
-        let Ok(()) = table.set_volume(order.number, volume) else {
-            unreachable!()
-        };
-    }
 }
 
 // The order as it is to be, with the next arrival.
@@ -81,14 +69,19 @@ fn renewed(tally: &mut u32, order: &Order, wanted: &Alteration) -> Order
 impl<T: Table> Day<T> {
     // Another price or a greater volume takes a new arrival, and another price trades in Open; a
     // smaller volume keeps its place; with neither changed the order stays as it is.
-    fn change(&mut self, order: Order, wanted: Alteration, run: &mut [Slip]) -> Fill
+    fn change(
+        &mut self,
+        order: Order,
+        wanted: Alteration,
+        run: &mut [Slip],
+    ) -> Result<Fill, Refusal>
         requires given { self.old.tally < 1000000 }
         requires some { 0 < wanted.volume }
         requires found { lookup order.number self.old.table.book ≡ Some order }
         requires long { is_open self.old.stage ≡ true
             → length (listed (opposite order.direction) self.old.table) < length run.old }
         ensures day { self.new ≡ (altering self.old wanted order).day }
-        ensures fill { result ≡ fill_of (entry_again self.old wanted order) }
+        ensures fill { by_number result ≡ Ok (fill_of (entry_again self.old wanted order)) }
         ensures run { run.new ≡ written_into run.old (altering self.old wanted order).slips }
     {
         match (order, wanted) {
@@ -100,13 +93,22 @@ impl<T: Table> Day<T> {
                 let again = renewed(&mut self.tally, &o, &w);
                 enter_again(&mut self.table, again, false, run)
             }
-            (o, w) => {
-                keep_place(&mut self.table, &o, w.volume);
-                Fill {
+            (o, w) if w.volume < o.volume => {
+                self.table
+                    .set_volume(o.number, w.volume)
+                    .map_err(|_no| Refusal::NotHeld)?;
+                Ok(Fill {
                     traded: 0,
                     held: w.volume,
                     written: 0,
-                }
+                })
+            }
+            (o, _) => {
+                Ok(Fill {
+                    traded: 0,
+                    held: o.volume,
+                    written: 0,
+                })
             }
         }
     }
@@ -125,7 +127,7 @@ impl<T: Table> Day<T> {
             ≡ run_after run.old (step terms.now self.old (Alter wanted) (length run.old)) }
     {
         let order = self.check_alter(terms, wanted, run.len())?;
-        let fill = self.change(order, wanted, run);
+        let fill = self.change(order, wanted, run)?;
         let told = Altered {
             traded: fill.traded,
             held: fill.held,
@@ -144,9 +146,9 @@ impl<T: Table> Day<T> {
             self.new ≡ day_after self.old (step terms self.old (Withdraw named) room) }
     {
         let order = self.check_withdraw(named)?;
-        let Ok(()) = self.table.remove(named.number) else {
-            unreachable!()
-        };
+        self.table
+            .remove(named.number)
+            .map_err(|_no| Refusal::NotHeld)?;
         let told = Withdrawn {
             volume: order.volume,
         };

@@ -1,12 +1,12 @@
 // Orders that enter.
-ghost use Rattle.std.specs.Prelude.{◌≡◌, ◌<◌, true, length};
+ghost use Rattle.std.specs.Prelude.{◌≡◌, ◌<◌, true, length, Ok};
 ghost use Rattle.rules.specs.Side.{opposite};
 ghost use Rattle.tables.specs.Meaning.{listed, takes};
 ghost use Rattle.book.specs.declared.call.Call.TheVariants.{Enter};
 ghost use Rattle.book.specs.Calls.{limit_price as price_for, order_of as order_made, lapse_left, held_left as held_of, stand_left, entry_trading, entry_of, step};
 ghost use Rattle.book.specs.Model.{day_after};
 ghost use Rattle.market.specs.Fills.{fill_of};
-ghost use Rattle.market.specs.Outcome.{told_as, answer_of, run_after, written_into};
+ghost use Rattle.market.specs.Outcome.{by_number, told_as, answer_of, run_after, written_into};
 
 use crate::day::Day;
 use crate::fills::sweep;
@@ -128,29 +128,33 @@ pub fn enter_trading<T: Table>(table: &mut T, order: Order, run: &mut [Slip]) ->
     }
 }
 
-// An order enters: it trades first, if it is to.
-pub fn enter_order<T: Table>(table: &mut T, order: Order, trades: bool, run: &mut [Slip]) -> Fill
+// An order enters: it trades first, if it is to. Where it does not, the table's no would be row 11.
+pub fn enter_order<T: Table>(
+    table: &mut T,
+    order: Order,
+    trades: bool,
+    run: &mut [Slip],
+) -> Result<Fill, Refusal>
     requires free { takes (T.Table.contents table.old) order ≡ true }
     requires long { trades ≡ true
         → length (listed (opposite order.direction) (T.Table.contents table.old))
         < length run.old }
-    ensures fill { result ≡ fill_of (entry_of trades order (T.Table.contents table.old)) }
+    ensures fill { by_number result
+        ≡ Ok (fill_of (entry_of trades order (T.Table.contents table.old))) }
     ensures table { T.Table.contents table.new
         ≡ (entry_of trades order (T.Table.contents table.old)).table }
     ensures run { run.new
         ≡ written_into run.old (entry_of trades order (T.Table.contents table.old)).slips }
 {
     if trades {
-        return enter_trading(table, order, run);
+        return Ok(enter_trading(table, order, run));
     }
-    let Ok(()) = table.add(order) else {
-        unreachable!()
-    };
-    Fill {
+    table.add(order).map_err(|_no| Refusal::SideFull)?;
+    Ok(Fill {
         traded: 0,
         held: order.volume,
         written: 0,
-    }
+    })
 }
 
 impl<T: Table> Day<T> {
@@ -170,7 +174,7 @@ impl<T: Table> Day<T> {
         self.check_enter(terms, new, run.len())?;
         self.tally += 1;
         let order = order_of(terms, self.tally, new);
-        let fill = enter_order(&mut self.table, order, self.stage.is_open(), run);
+        let fill = enter_order(&mut self.table, order, self.stage.is_open(), run)?;
         let told = Entered {
             number: order.number,
             traded: fill.traded,

@@ -4,8 +4,8 @@ use Rattle.market.proofs.Altering.{found_number}
 use Rattle.market.proofs.Stepping.{alter_asked}
 use Rattle.market.proofs.day.Day.alter.Goals as goal
 
-pub change-fill-requires-clause-found : goal.change-fill-requires-clause-found
-change-fill-requires-clause-found g c =
+pub change-requires-clause-found : goal.change-requires-clause-found
+change-requires-clause-found g c =
     let d = c.args.self.now in
     let w = c.args.wanted in
     let o = c.in_ok-order.order in
