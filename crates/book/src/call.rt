@@ -1,7 +1,7 @@
 // What a member or the clock asks of the book.
 use rules::order::Direction;
 
-// An order that is to enter: a limit order at its price, or a market order, which names none.
+/// An order that is to enter: a limit order at its price in bani, or a market order, which names none; volume in shares.
 #[derive(Clone, Copy, Debug, PartialEq, Eq)]
 pub struct NewOrder {
     pub member: u32,
@@ -10,7 +10,7 @@ pub struct NewOrder {
     pub volume: u32,
 }
 
-// What an order of the member is to be: its price, and the volume that is to be left of it.
+/// What an order of the member is to be: its price in bani, and the volume that is to be left of it, in shares.
 #[derive(Clone, Copy, Debug, PartialEq, Eq)]
 pub struct Alteration {
     pub member: u32,
@@ -19,13 +19,14 @@ pub struct Alteration {
     pub volume: u32,
 }
 
-// An order of the member that is to be taken out.
+/// An order of the member that is to be taken out.
 #[derive(Clone, Copy, Debug, PartialEq, Eq)]
 pub struct Withdrawal {
     pub member: u32,
     pub number: u32,
 }
 
+/// Any call as a value.
 #[derive(Clone, Copy, Debug, PartialEq, Eq)]
 pub enum Call {
     Enter(NewOrder),

@@ -1,4 +1,5 @@
-// What a call writes: a trade of two orders, or the end of what is left of a market order.
+/// What a call writes: a trade of two orders, or the end of what is left of a market order. Orders are named by their
+/// numbers; price in bani, volume in shares.
 #[derive(Clone, Copy, Debug, PartialEq, Eq)]
 pub enum Slip {
     Trade {

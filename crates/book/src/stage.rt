@@ -4,6 +4,7 @@ ghost use Rattle.book.specs.Stages.{is_open, stage_after, stage_number, strikes}
 
 use crate::call::Call;
 
+/// The parts of a day, in their order, each with its number.
 #[derive(Clone, Copy, Debug, PartialEq, Eq)]
 pub enum Stage {
     PreOpen = 1,
@@ -13,7 +14,7 @@ pub enum Stage {
 }
 
 impl Stage {
-    // After an accepted call: an advance moves to the next stage, any other call stays.
+    /// After an accepted call: an advance moves to the next stage, any other call stays.
     pub fn follow(&mut self, call: &Call)
         ensures { self.new ≡ stage_after self.old call.now }
     {
@@ -25,21 +26,21 @@ impl Stage {
         }
     }
 
-    // Orders that enter trade in Open alone.
+    /// Orders that enter trade in Open alone.
     pub fn is_open(self) -> bool
         ensures { result ≡ is_open self }
     {
         matches!(self, Stage::Open)
     }
 
-    // Out of Pre-open and Pre-close there is a strike.
+    /// Out of Pre-open and Pre-close there is a strike.
     pub fn strikes(self) -> bool
         ensures { result ≡ strikes self }
     {
         matches!(self, Stage::PreOpen | Stage::PreClose)
     }
 
-    // The number that the stage is shown as.
+    /// The number that the stage is shown as.
     pub fn number(self) -> u32
         ensures { result ≡ stage_number self }
     {

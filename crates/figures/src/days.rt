@@ -19,7 +19,7 @@ fn at_limits(band: Limits, best: Best) -> (bool, bool)
     }
 }
 
-// A closed session of this course.
+/// A closed session of this course.
 pub fn left_by(terms: &Terms, course: &Course) -> DayRecord
     ensures { let t = terms.now in let c = course.now in
         result ≡ left t.lo t.hi c.best c.stood c.last_trade }

@@ -25,14 +25,14 @@ pub static BANDS: [Band; 2] = [
     },
 ];
 
-// The best prices of a day as they are published: both sides', or one price without its side.
+/// The best prices of a day as they are published: both sides', or one price without its side.
 #[derive(Clone, Copy)]
 pub enum Best {
     Pair { buy: u32, sell: u32 },
     Lone(u32),
 }
 
-// For how much of continuous trading the best prices stood, where that is said.
+/// For how much of continuous trading the best prices stood, where that is said.
 #[derive(Clone, Copy, PartialEq, Eq)]
 pub enum Stood {
     Throughout,
@@ -40,7 +40,7 @@ pub enum Stood {
     Unsaid,
 }
 
-// What is published of a day's trading.
+/// What is published of a day's trading.
 #[derive(Clone, Copy)]
 pub struct Course {
     pub best: Best,
@@ -48,7 +48,7 @@ pub struct Course {
     pub last_trade: Option<u32>,
 }
 
-// A next reference price of a session without trades, in which one best price stood at its limit.
+/// A next reference price of a session without trades, in which one best price stood at its limit.
 pub struct Untraded {
     pub reference: u32,
     pub course: Course,
@@ -85,7 +85,7 @@ pub static UNTRADED: [Untraded; 3] = [
     },
 ];
 
-// What is looked at on entry, and what the check of it answers.
+/// What is looked at on entry, and what the check of it answers.
 #[derive(Clone, Copy)]
 pub enum Asked {
     Price(u32),
@@ -120,13 +120,13 @@ pub static ENTRIES: [Entry; 5] = [
     },
 ];
 
-// A day of a symbol. A row that keeps its reference price although a best price stands at its limit had it there for a
-// part of the time. Day 15 of symbol B prints 2070 as its lowest price, where 2070.6 rounds to 2071.
+/// A day of a symbol. A row that keeps its reference price although a best price stands at its limit had it there for a
+/// part of the time. Day 15 of symbol B prints 2070 as its lowest price, where 2070.6 rounds to 2071.
 pub struct Row {
     pub day: u32,
     pub course: Course,
     pub figures: Day,
-    // what the rule gives for the lowest price, where the row is known to print another
+    /// what the rule gives for the lowest price, where the row is known to print another
     pub known_lowest: Option<u32>,
 }
 

@@ -8,7 +8,7 @@ use rules::order::Order;
 use rules::refusal::Refusal;
 use std::fmt;
 
-// The lowest and the highest price of a band.
+/// The lowest and the highest price of a band.
 #[derive(Clone, Copy, Debug, PartialEq, Eq)]
 pub struct Limits {
     pub lowest: u32,
@@ -30,7 +30,7 @@ impl fmt::Display for Limits {
     }
 }
 
-// The figures of a day, one by one, since the lowest price alone may be known to differ.
+/// The figures of a day, one by one, since the lowest price alone may be known to differ.
 #[derive(Clone, Copy, Debug, PartialEq, Eq)]
 pub struct Day {
     pub reference: u32,
@@ -54,14 +54,14 @@ impl fmt::Display for Day {
     }
 }
 
-// A price, and the volume that trades at it.
+/// A price, and the volume that trades at it.
 #[derive(Clone, Copy, Debug, PartialEq, Eq)]
 pub struct Struck {
     pub price: u32,
     pub volume: u128,
 }
 
-// What a fixing comes to, or none.
+/// What a fixing comes to, or none.
 #[derive(Clone, Copy, Debug, PartialEq, Eq)]
 pub struct Fixed(pub Option<Struck>);
 
@@ -85,7 +85,7 @@ impl fmt::Display for Fixed {
     }
 }
 
-// What a check on entry answers.
+/// What a check on entry answers.
 #[derive(Clone, Copy, Debug, PartialEq, Eq)]
 pub struct Answer(pub Result<(), Refusal>);
 
@@ -107,7 +107,7 @@ impl fmt::Display for Asked {
     }
 }
 
-// Orders, each as side and price/volume.
+/// Orders, each as side and price/volume.
 #[derive(Clone, Copy)]
 pub struct Lines<'a>(pub &'a [Order]);
 

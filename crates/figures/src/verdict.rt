@@ -5,7 +5,7 @@ ghost use Rattle.figures.specs.Verdicts.{of_day};
 use crate::shown::Day;
 use report::verdict::Verdict;
 
-// A lowest price that differs from the published one as it is known to is no fault, if all else agrees.
+/// A lowest price that differs from the published one as it is known to is no fault, if all else agrees.
 pub fn judge(given: Day, published: Day, known_lowest: Option<u32>) -> Verdict
     ensures { result ≡ of_day given published known_lowest }
 {

@@ -15,7 +15,8 @@ use rules::terms::Terms;
 use tables::table::Table;
 
 impl<T: Table> Day<T> {
-    // Moves to the next stage; leaving Pre-open or Pre-close strikes a fixing.
+    /// Moves to the next stage; leaving Pre-open or Pre-close strikes a fixing. Errors: the first of its rows that refuses;
+    /// day and run are then unchanged.
     pub fn advance(&mut self, terms: &Terms, run: &mut [Slip]) -> Result<Answer<Advanced>, Refusal>
         ensures answer { told_as Told.Advanced result
             ≡ answer_of (step terms.now self.old Advance (length run.old)) }

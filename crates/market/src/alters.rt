@@ -113,6 +113,7 @@ impl<T: Table> Day<T> {
         }
     }
 
+    /// Alters an order. Errors: the first of its rows that refuses; day and run are then unchanged.
     pub fn alter(
         &mut self,
         terms: &Terms,
@@ -138,7 +139,8 @@ impl<T: Table> Day<T> {
         })
     }
 
-    // Needs no terms, and writes no slip.
+    /// Withdraws an order; this needs no terms, and writes no slip. Errors: the first of its rows that refuses; the day is
+    /// then unchanged.
     pub fn withdraw(&mut self, named: Withdrawal) -> Result<Answer<Withdrawn>, Refusal>
         ensures answer { (terms : Terms) (room : ℕ) →
             told_as Told.Withdrawn result ≡ answer_of (step terms self.old (Withdraw named) room) }

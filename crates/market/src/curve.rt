@@ -10,6 +10,7 @@ use rules::order::{Direction, Order};
 use rules::side::{Buys, Quotes, Sells};
 use tables::table::Table;
 
+/// The orders that a table holds, as a curve.
 #[derive(Drop)]
 pub struct TableCurve<'a, T: Table> {
     pub table: &'a T,

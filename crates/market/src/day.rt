@@ -6,10 +6,11 @@ use book::stage::Stage;
 use std::marker::Model;
 use tables::table::Table;
 
+/// A day without its terms and marks: the stage, the arrivals given and the table.
 #[derive(Drop)]
 pub struct Day<T: Table> {
     pub stage: Stage,
-    // arrivals given
+    /// arrivals given
     pub tally: u32,
     pub table: T,
 }
@@ -29,7 +30,7 @@ impl<T: Table> Model for Day<T> {
 }
 
 impl<T: Table> Day<T> {
-    // A day owns its table, and clears it.
+    /// A day owns its table, and clears it.
     pub fn new(table: T) -> Day<T>
         ensures { result ≡ new_day (T.Table.contents table).capacity }
     {
@@ -42,6 +43,7 @@ impl<T: Table> Day<T> {
         }
     }
 
+    /// The part of the day that it is.
     pub fn stage(&self) -> Stage
         ensures { result ≡ self.now.stage }
     {

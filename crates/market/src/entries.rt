@@ -19,12 +19,12 @@ use rules::side::{Buys, Sells, Side};
 use rules::terms::Terms;
 use tables::table::Table;
 
-// What an order comes to that was worked.
+/// What an order comes to that was worked.
 #[derive(Clone, Copy)]
 pub struct Fill {
     pub traded: u128,
     pub held: u32,
-    // the slips written
+    /// the slips written
     pub written: usize,
 }
 
@@ -111,7 +111,7 @@ fn enter_trading_on<S: Side, T: Table>(table: &mut T, order: Order, run: &mut [S
     }
 }
 
-// Here the side of an order goes from a value to a type.
+/// Here the side of an order goes from a value to a type.
 pub fn enter_trading<T: Table>(table: &mut T, order: Order, run: &mut [Slip]) -> Fill
     requires free { takes (T.Table.contents table.old) order ≡ true }
     requires long { length (listed (opposite order.direction) (T.Table.contents table.old))
@@ -128,7 +128,7 @@ pub fn enter_trading<T: Table>(table: &mut T, order: Order, run: &mut [Slip]) ->
     }
 }
 
-// An order enters: it trades first, if it is to. Where it does not, the table's no would be row 11.
+/// An order enters: it trades first, if it is to. Where it does not, the table's no would be row 11.
 pub fn enter_order<T: Table>(
     table: &mut T,
     order: Order,
@@ -158,6 +158,7 @@ pub fn enter_order<T: Table>(
 }
 
 impl<T: Table> Day<T> {
+    /// Enters an order. Errors: the first of its rows that refuses; day and run are then unchanged.
     pub fn enter(
         &mut self,
         terms: &Terms,

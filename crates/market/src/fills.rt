@@ -12,18 +12,18 @@ use rules::order::{Direction, Order};
 use rules::side::{Quotes, Side, meets};
 use tables::table::Table;
 
-// What a sweep comes to beside the table and the run.
+/// What a sweep comes to beside the table and the run.
 #[derive(Clone, Copy)]
 pub struct Swept {
     pub traded: u128,
-    // of the volume wanted
+    /// of the volume wanted
     pub left: u32,
-    // the slips written
+    /// the slips written
     pub written: usize,
 }
 
-// Takes a volume out of the order that ranks first on its side; with its last share the order is
-// out.
+/// Takes a volume out of the order that ranks first on its side; with its last share the order is
+/// out.
 pub fn take<T: Table>(table: &mut T, first: &Order, volume: u32)
     requires first { slice_get (listed first.now.direction (T.Table.contents table.old)) 0
         ≡ Some first.now }
@@ -59,7 +59,7 @@ fn trade<S: Quotes>(number: u32, resting: &Order, volume: u32) -> Slip
     }
 }
 
-// An order of the side S trades with the other side, first to last, while that is willing.
+/// An order of the side S trades with the other side, first to last, while that is willing.
 pub fn sweep<S: Side, T: Table>(table: &mut T, order: &Order, run: &mut [Slip]) -> Swept
     requires side { order.now.direction ≡ S.Quotes.way }
     requires room { length (listed (opposite S.Quotes.way) (T.Table.contents table.old))

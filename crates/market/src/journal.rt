@@ -13,7 +13,7 @@ use rules::terms::Terms;
 use std::alloc::{AllocError, Global};
 use tables::table::Table;
 
-// A call over a run of so many places, and what came of it.
+/// A call over a run of so many places, and what came of it.
 #[derive(Drop)]
 pub struct Entry {
     pub call: Call,
@@ -52,8 +52,10 @@ fn enter_line<T: Table>(
     })
 }
 
-// Starts a session over the table and works the calls in turn, each over the whole run. Every
-// entry of the journal is lawful against the ledger of the entries before it.
+/// Starts a session over the table and works the calls in turn, each over the whole run. Every
+/// entry of the journal is lawful against the ledger of the entries before it.
+///
+/// Errors: there is no memory. The session is then gone, and what its calls wrote stands in the run.
 pub fn work_all<T: Table>(
     heap: Global,
     terms: Terms,

@@ -56,7 +56,7 @@ fn mark_on(stage: Stage, call: &Call, old: bool, now: bool) -> bool
     }
 }
 
-// The marks after an accepted call: the stage that it was made in, its slips, and the day after it.
+/// The marks after an accepted call: the stage that it was made in, its slips, and the day after it.
 pub fn marks_after<T: Table>(
     terms: &Terms,
     stage: Stage,

@@ -102,6 +102,7 @@ impl<T: Table> Day<T> {
         Ok(())
     }
 
+    /// The rows of an enter over a run of so many places, and so of each call below.
     pub fn check_enter(&self, terms: &Terms, new: NewOrder, room: usize) -> Result<(), Refusal>
         ensures { refusal_of result ≡ first_row (enter_rows terms.now self.now new room) }
     {
@@ -115,7 +116,7 @@ impl<T: Table> Day<T> {
         Ok(())
     }
 
-    // The order that is to be altered.
+    /// The rows of an alter; it hands on the order that is named.
     pub fn check_alter(
         &self,
         terms: &Terms,
@@ -138,7 +139,7 @@ impl<T: Table> Day<T> {
         Ok(order)
     }
 
-    // The order that is to be withdrawn.
+    /// The rows of a withdraw; it hands on the order that is named.
     pub fn check_withdraw(&self, named: Withdrawal) -> Result<Order, Refusal>
         ensures rows { let held = order_named named.number self.now in
             refusal_of result ≡ first_row (withdraw_rows self.now named held) }
@@ -151,6 +152,7 @@ impl<T: Table> Day<T> {
         Ok(order)
     }
 
+    /// The rows of an advance.
     pub fn check_advance(&self, room: usize) -> Result<(), Refusal>
         ensures { refusal_of result ≡ first_row (advance_rows self.now room) }
     {

@@ -17,6 +17,7 @@ use rules::terms::Terms;
 use std::marker::Model;
 use tables::table::Table;
 
+/// A session of one symbol, over a table that it owns.
 #[derive(Drop)]
 pub struct Session<T: Table> {
     terms: Terms,
@@ -35,7 +36,7 @@ impl<T: Table> Model for Session<T> {
 }
 
 impl<T: Table> Session<T> {
-    // A session owns its table, and clears it.
+    /// A new session in Pre-open. It owns its table, and clears it.
     pub fn start(terms: Terms, table: T) -> Session<T>
         ensures { result ≡ session_start terms (T.Table.contents table).capacity }
     {
@@ -50,7 +51,8 @@ impl<T: Table> Session<T> {
         }
     }
 
-    // Ends the session, and the table with it. Before Closed the reference price stays.
+    /// Ends the session, and the table with it. The day that it gives has the next reference price; before Closed that is
+    /// the one of the terms.
     #[tactic(auto, using(book::proofs::Endings::ends_by_journal))]
     pub fn end(self) -> EndedDay
     where
@@ -74,6 +76,10 @@ impl<T: Table> Session<T> {
         marks_after(&self.terms, stage, &call, self.marks, slips, &self.day)
     }
 
+    /// Enters an order, which in Open trades first. Its slips stand in the run from the first place on; the places behind
+    /// them are unchanged.
+    ///
+    /// Errors: the first of the refusals 3 to 6 and 10 to 12 that holds. Session and run are then unchanged.
     pub fn enter(&mut self, new: NewOrder, run: &mut [Slip]) -> Result<Answer<Entered>, Refusal>
         ensures outcome { came_to (told_as Told.Entered result) self.new run.new
             ≡ by_the_rules self.old (Enter new) run.old }
@@ -86,6 +92,10 @@ impl<T: Table> Session<T> {
         Ok(answer)
     }
 
+    /// Changes price and volume of an order, which in Open trades as one that enters if the price changes. Its slips stand in
+    /// the run as those of an enter.
+    ///
+    /// Errors: the first of the refusals 3 to 10 and 12 that holds. Session and run are then unchanged.
     pub fn alter(
         &mut self,
         wanted: Alteration,
@@ -102,6 +112,9 @@ impl<T: Table> Session<T> {
         Ok(answer)
     }
 
+    /// Takes an order out. It writes no slip, so the run is unchanged.
+    ///
+    /// Errors: the first of the refusals 3, 4, 7 and 8 that holds. The session is then unchanged.
     pub fn withdraw(
         &mut self,
         named: Withdrawal,
@@ -118,6 +131,9 @@ impl<T: Table> Session<T> {
         Ok(answer)
     }
 
+    /// Moves to the next stage; leaving Pre-open or Pre-close strikes a fixing, with its trades and lapses as slips in the run.
+    ///
+    /// Errors: the first of the refusals 3 and 12 that holds. Session and run are then unchanged.
     pub fn advance(&mut self, run: &mut [Slip]) -> Result<Answer<Advanced>, Refusal>
         ensures outcome { came_to (told_as Told.Advanced result) self.new run.new
             ≡ by_the_rules self.old Advance run.old }
@@ -130,7 +146,7 @@ impl<T: Table> Session<T> {
         Ok(answer)
     }
 
-    // Works any call, over a run of any length.
+    /// Works any call as its own function does, with the same errors.
     pub fn work(&mut self, call: Call, run: &mut [Slip]) -> Result<Answer<Told>, Refusal>
         ensures outcome { came_to (by_number result) self.new run.new
             ≡ by_the_rules self.old call run.old }

@@ -16,12 +16,12 @@ use rules::side::{Buys, Quotes, Sells};
 use rules::terms::Terms;
 use tables::table::Table;
 
-// What a strike comes to beside the table and the run.
+/// What a strike comes to beside the table and the run.
 #[derive(Clone, Copy)]
 pub struct Struck {
     pub price: Option<u32>,
     pub traded: u128,
-    // the slips written
+    /// the slips written
     pub written: usize,
 }
 
@@ -189,7 +189,7 @@ fn lapse_both<T: Table>(table: &mut T, run: &mut [Slip]) -> usize
     buys + lapse(table, Direction::Sell, &mut run[buys..])
 }
 
-// Trades at the fixing price, if there is one, and then lets the market orders lapse.
+/// Trades at the fixing price, if there is one, and then lets the market orders lapse.
 pub fn strike<T: Table>(terms: &Terms, table: &mut T, run: &mut [Slip]) -> Struck
     requires room { order_count (T.Table.contents table.old) ≤ length run.old }
     requires few { order_count (T.Table.contents table.old) ≤ 1000000 }

@@ -10,6 +10,7 @@ use anyhow::ensure;
 use std::fmt::Display;
 use verdict::{Tally, Verdict, agreement};
 
+/// A report that is printed to a runtime as it is told.
 #[derive(Drop)]
 pub struct Report<R> {
     rt: R,
@@ -17,6 +18,7 @@ pub struct Report<R> {
 }
 
 impl<R: Print> Report<R> {
+    /// A report on nothing yet.
     pub fn new(rt: R) -> Self
         ensures { result.tally ≡ record { agree = 0; known = 0; differ = 0 } }
     {
@@ -26,7 +28,7 @@ impl<R: Print> Report<R> {
         }
     }
 
-    // Counts a verdict, and prints it after what it is on.
+    /// Counts a verdict, and prints it after what it is on.
     pub fn tell(&mut self, what: impl Display + Drop, v: Verdict) -> anyhow::Result<()>
         ensures { self.new.tally ≡ tally_after v self.old.tally }
     {
@@ -35,7 +37,7 @@ impl<R: Print> Report<R> {
         Ok(())
     }
 
-    // Tells of a figure whether what the rules give is what is published.
+    /// Tells of a figure whether what the rules give is what is published.
     pub fn compare<T: PartialEq + Display>(
         &mut self,
         what: impl Display + Drop,
@@ -52,7 +54,7 @@ impl<R: Print> Report<R> {
         )
     }
 
-    // Prints how often which verdict came on the things of a kind, and fails if any differs.
+    /// Prints how often which verdict came on the things of a kind, and fails if any differs.
     pub fn close(&self, kind: &str) -> anyhow::Result<()>
         ensures { OnOk result (self.now.tally.differ ≡ 0) }
     {

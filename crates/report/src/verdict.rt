@@ -4,6 +4,7 @@ ghost use Rattle.report.specs.Verdicts.{plain, tally_after};
 
 use std::fmt;
 
+/// Whether what is given is what is wanted. A known difference is one that was expected.
 #[derive(Clone, Copy)]
 pub enum Verdict {
     Agrees,
@@ -21,6 +22,7 @@ impl fmt::Display for Verdict {
     }
 }
 
+/// The verdict on two values, by their own comparison.
 pub fn agreement<T: PartialEq>(given: &T, wanted: &T) -> Verdict
     ensures { result ≡ plain (T.eq given.now wanted.now) }
 {
@@ -31,6 +33,7 @@ pub fn agreement<T: PartialEq>(given: &T, wanted: &T) -> Verdict
     }
 }
 
+/// How often each verdict came, modulo 2^64.
 #[derive(Clone, Copy, Default)]
 pub struct Tally {
     pub agree: u64,
@@ -39,6 +42,7 @@ pub struct Tally {
 }
 
 impl Tally {
+    /// Counts a verdict.
     pub fn count(&mut self, v: Verdict)
         ensures { self.new ≡ tally_after v self.old }
     {

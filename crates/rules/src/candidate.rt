@@ -5,6 +5,7 @@ ghost use Rattle.rules.specs.Keys.{candidates};
 use crate::rank::Ranked;
 use std::cmp::Reverse;
 
+/// Prices in bani, volumes in shares; distance is that of the price to the reference price.
 #[derive(Clone, Copy)]
 pub struct Candidate {
     pub price: u32,

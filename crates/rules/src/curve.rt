@@ -9,18 +9,18 @@ ghost use Rattle.rules.specs.Curve.{share as share_at, depth as depth_at, Covers
 use crate::order::{Direction, Order};
 use crate::side::{Buys, Quotes, Sells};
 
-// Where the curve comes from.
+/// Where the curve comes from.
 pub trait Curve {
     ghost book: { Self → Book };
 
     // its orders, of both sides and in any sequence
     ghost orders: { Self → List Order };
 
-    // The volume of the side's orders that are willing at p.
+    /// The volume of the side's orders that are willing at p.
     fn depth(&self, d: Direction, p: u32) -> u128
         ensures { result ≡ depth_at d p (side d (book self.now)) };
 
-    // How many orders there are: the counts of two sides together may pass 64 bits.
+    /// How many orders there are: the counts of two sides together may pass 64 bits.
     fn count(&self) -> u128
         ensures { result ≡ length (orders self.now) };
 
@@ -42,7 +42,7 @@ fn share<S: Quotes>(o: &Order, p: u32) -> u32
     }
 }
 
-// The volume of the orders of the side S that are willing at p: demand for the buys, supply for the sells.
+/// The volume of the orders of the side S that are willing at p: demand for the buys, supply for the sells.
 pub fn depth_of<S: Quotes>(orders: &[Order], p: u32) -> u128
     ensures { result ≡ depth_at S.Quotes.way p (of_side S.Quotes.way orders.now) }
 {

@@ -6,6 +6,7 @@ ghost use Rattle.rules.specs.Entry.{refusal_of, row, is_member, is_volume};
 use crate::refusal::Refusal;
 use crate::terms::Terms;
 
+/// Errors: refusal 4, where the member is not 1 to 16.
 pub fn check_member(member: u32) -> Result<(), Refusal>
     ensures { refusal_of result ≡ row (not (is_member member)) 4 }
 {
@@ -15,6 +16,7 @@ pub fn check_member(member: u32) -> Result<(), Refusal>
     }
 }
 
+/// Errors: refusal 5, where the volume is 0, over 100,000,000 shares or not whole blocks.
 pub fn check_volume(terms: &Terms, volume: u32) -> Result<(), Refusal>
     ensures { refusal_of result ≡ row (not (is_volume terms.now.block volume)) 5 }
 {
@@ -24,6 +26,7 @@ pub fn check_volume(terms: &Terms, volume: u32) -> Result<(), Refusal>
     Ok(())
 }
 
+/// Errors: refusal 6, where the price is outside the band.
 pub fn check_price(terms: &Terms, price: u32) -> Result<(), Refusal>
     ensures { refusal_of result ≡ row (not (within terms.now.lo terms.now.hi price)) 6 }
 {

@@ -13,7 +13,7 @@ use crate::order::{Direction, Order};
 use crate::rank::pick;
 use crate::terms::Terms;
 
-// The price p as a candidate of the fixing around the reference price r.
+/// The price p as a candidate of the fixing around the reference price r.
 pub fn candidate<C: Curve>(curve: &C, r: u32, p: u32) -> Candidate
     ensures { result ≡ candidate_at r (C.Curve.book curve.now) p }
 {
@@ -82,7 +82,7 @@ impl<C: Curve> Search<'_, C> {
     }
 }
 
-// The fixing price of a curve's orders, none where nothing can trade at any price of the band.
+/// The fixing price of a curve's orders, none where nothing can trade at any price of the band.
 #[tactic(auto, using(crate::proofs::Steps::greatest_under))]
 pub fn fixing_on<C: Curve>(terms: &Terms, curve: &C) -> Option<Candidate>
     ensures value { result ≡ fixing_under terms.now (C.Curve.book curve.now) }
@@ -92,7 +92,7 @@ pub fn fixing_on<C: Curve>(terms: &Terms, curve: &C) -> Option<Candidate>
     (best.volume != 0).then_some(best)
 }
 
-// The fixing price of the orders of a slice.
+/// The fixing price of the orders of a slice.
 pub fn fixing(terms: &Terms, orders: &[Order]) -> Option<Candidate>
     ensures value { result ≡ fixing_under terms.now (split orders.now) }
     ensures greatest { GreatestUnder terms.now (split orders.now) result }

@@ -5,6 +5,7 @@ ghost use Rattle.rules.specs.Side.{opposite, called};
 
 use std::fmt;
 
+/// The side of an order.
 #[derive(Clone, Copy, Debug, PartialEq, Eq)]
 pub enum Direction {
     Buy,
@@ -23,7 +24,7 @@ impl fmt::Display for Direction {
 }
 
 impl Direction {
-    // The direction that it trades against.
+    /// The direction that it trades against.
     pub fn opposite(self) -> Direction
         ensures { result ≡ opposite self }
     {
@@ -34,8 +35,8 @@ impl Direction {
     }
 }
 
-// A market order carries its mark and, as its price, the limit of the band that it is willing up to. Mark and price are
-// two fields, since both always count: it ranks and trades by that price.
+/// An order: price in bani, volume in shares. A market order carries its mark and, as its price, the limit of the band
+/// that it is willing up to. Mark and price are two fields, since both always count: it ranks and trades by that price.
 #[derive(Clone, Copy)]
 pub struct Order {
     pub number: u32,
@@ -48,7 +49,7 @@ pub struct Order {
 }
 
 impl Order {
-    // A limit order that enters now: its number is its arrival.
+    /// A limit order that enters now: its number is its arrival.
     pub fn limit(number: u32, member: u32, direction: Direction, price: u32, volume: u32) -> Order
         ensures { result ≡ limit number member direction price volume }
     {

@@ -8,6 +8,7 @@ use crate::rank::Ranked;
 use crate::side::Quotes;
 use std::marker::PhantomData;
 
+/// An order that is ranked on the side S.
 #[derive_where(Clone, Copy)]
 pub struct Queued<S> {
     pub order: Order,
@@ -15,6 +16,7 @@ pub struct Queued<S> {
 }
 
 impl<S: Quotes> Queued<S> {
+    /// Ranks an order on this side whichever its own is.
     pub fn new(order: Order) -> Queued<S>
         ensures { result.order ≡ order }
     {

@@ -2,7 +2,7 @@
 ghost use Rattle.std.specs.Prelude.{◌≡◌, ℕ, Bool, true, false};
 ghost use Rattle.rules.specs.Picking.{better_of, picked, Chosen};
 
-// No Ord: what is level in rank need not be equal, as two orders with one number.
+/// No Ord: what is level in rank need not be equal, as two orders with one number.
 pub trait Ranked {
     ghost identity: { Self → ℕ };
 
@@ -22,14 +22,14 @@ pub trait Ranked {
         → identity a ≡ identity b };
 }
 
-// The better of two; the one held where they are level.
+/// The better of two; the one held where they are level.
 pub fn pick<R: Ranked + Copy>(held: R, next: R) -> R
     ensures { result ≡ better_of R.precedes held next }
 {
     if next.before(&held) { next } else { held }
 }
 
-// The best of the items, and of those that are level the first in the slice; nothing from an empty slice.
+/// The best of the items, and of those that are level the first in the slice; nothing from an empty slice.
 #[tactic(auto, using(crate::proofs::Choosing::chosen_by_laws))]
 pub fn best<R: Ranked + Copy>(items: &[R]) -> Option<R>
     ensures value { result ≡ picked R.precedes items.now }

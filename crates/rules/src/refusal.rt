@@ -2,6 +2,7 @@
 ghost use Rattle.std.specs.Prelude.{◌≡◌};
 ghost use Rattle.rules.specs.Refusal.{number};
 
+/// Why a call is refused, by number.
 #[derive(Clone, Copy, Debug, PartialEq, Eq)]
 pub enum Refusal {
     Reference = 1,
@@ -20,6 +21,7 @@ pub enum Refusal {
 }
 
 impl Refusal {
+    /// What a caller is told.
     pub fn number(self) -> u32
         ensures { result ≡ number self }
     {

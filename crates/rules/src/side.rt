@@ -6,7 +6,7 @@ ghost use Rattle.std.proofs.Common.{rules};
 
 use crate::order::Direction;
 
-// What a side says of prices. `way` is its direction as a value.
+/// What a side says of prices. `way` is its direction as a value.
 pub trait Quotes {
     ghost way: { Direction };
 
@@ -32,7 +32,7 @@ pub trait Quotes {
     ghost exact: { (price p : ℕ) → willing_at way price p ≡ not (better_at way p price) };
 }
 
-// A side with the side it trades against.
+/// A side with the side it trades against.
 pub trait Side: Quotes {
     type Opposite: Quotes;
 
@@ -42,10 +42,11 @@ pub trait Side: Quotes {
     ghost back: { opposite_of Self.Opposite.Quotes.way ≡ Self.Quotes.way };
 }
 
-// The two sides differ in direction, comparison and opposite: each impl says those, and the check shows its laws.
+/// The buys, as a type. The two sides differ in direction, comparison and opposite: each impl says those, and the check shows its laws.
 #[derive(Clone, Copy)]
 pub struct Buys;
 
+/// The sells, as a type.
 #[derive(Clone, Copy)]
 pub struct Sells;
 
@@ -113,7 +114,7 @@ impl Side for Sells {
     ghost back = { Prim.search rules };
 }
 
-// Whether an order that rests at `resting` on the other side is willing at the limit of an order that enters on S.
+/// Whether an order that rests at `resting` on the other side is willing at the limit of an order that enters on S.
 pub fn meets<S: Side>(limit: u32, resting: u32) -> bool
     ensures { result ≡ willing_at (opposite_of S.Quotes.way) resting limit }
 {

@@ -4,7 +4,7 @@ ghost use Rattle.rules.specs.Band.{lowest, highest};
 
 mod make;
 
-// Only `new` makes terms, so every value has these facts.
+/// Only `new` makes terms, so every value has these facts.
 #[derive(Clone, Copy)]
 pub struct Terms {
     reference: u32,

@@ -103,6 +103,7 @@ fn read_line(heap: Global, cases: &mut Vec<Case>, line: &str) -> anyhow::Result<
     Ok(())
 }
 
+/// The cases that an input writes. Errors: the input breaks the form of the cases, or there is no memory.
 pub fn read_cases(heap: Global, input: &str) -> anyhow::Result<Vec<Case>>
     ensures { IfOk result (λ cases. vec_len cases ≡ count_by begins_case (lines input.now)) }
 {

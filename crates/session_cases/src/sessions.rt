@@ -236,6 +236,7 @@ fn show_day<R: Print>(
     report.tell(name, agreement(&given.as_str(), &day.text))
 }
 
+/// Works the days that no file can write, and tells of each.
 pub fn show_sessions<R: Print>(report: &mut Report<R>, heap: Global) -> anyhow::Result<()> {
     show_day(report, heap, "a run of its own for each call", 2, &RUNS)?;
     show_day(report, heap, "a million arrivals", 6, &ALL_ARRIVALS)?;

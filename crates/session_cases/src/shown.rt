@@ -15,6 +15,7 @@ fn show<R: Print>(report: &mut Report<R>, heap: Global, case: &Case) -> anyhow::
     report.tell(case.name.as_str(), v)
 }
 
+/// Works the cases in turn, and tells of each.
 pub fn show_all<R: Print>(
     report: &mut Report<R>,
     heap: Global,

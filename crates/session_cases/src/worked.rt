@@ -14,7 +14,7 @@ use std::alloc::{AllocError, Global};
 use tables::queue::Queue;
 use tables::slots::Slots;
 
-// What stands in a place before it is written.
+/// What stands in a place before it is written.
 pub fn no_order() -> Order {
     Order::limit(0, 0, Direction::Buy, 0, 0)
 }
@@ -40,7 +40,7 @@ fn over_slots(heap: Global, room: usize, file: &[u8]) -> Result<String, AllocErr
     answer_file(heap, file, Slots::new(heap)?, run)
 }
 
-// Whether each of the tables gives the text.
+/// Whether each of the tables gives the text.
 pub fn judge(heap: Global, case: &Case) -> Result<Verdict, AllocError>
     ensures { IfOk result (λ v. v ≡ judged case.now) }
 {

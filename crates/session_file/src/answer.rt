@@ -23,7 +23,7 @@ use rules::terms::Terms;
 use std::alloc::{AllocError, AllocFailed, Global};
 use tables::table::Table;
 
-// Why a file is read no further.
+/// Why a file is read no further.
 #[derive(Clone, Copy)]
 pub enum Stop {
     Broken(Fault),
@@ -119,7 +119,9 @@ fn answer_sections<T: Table + Drop>(
     answer_calls(heap, lines, count, terms, table, run, out)
 }
 
-// The text that a file is answered with, over a table and a run, which are spent.
+/// The text that a file is answered with, over a table and a run, which are spent.
+///
+/// Errors: there is no memory, and so no text. A broken file or a refusal is none: it is told in the text.
 pub fn answer_file<T: Table + Drop>(
     heap: Global,
     file: &[u8],

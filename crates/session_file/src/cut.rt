@@ -8,7 +8,7 @@ fn position_of(text: &[u8], mark: u8) -> Option<usize>
     text.iter().position(|b| *b == mark)
 }
 
-// What stands before the first mark, and what behind it.
+/// What stands before the first mark, and what behind it.
 pub fn cut_at(text: &[u8], mark: u8) -> Option<(&[u8], &[u8])>
     ensures { parts result ≡ cut mark text.now }
 {

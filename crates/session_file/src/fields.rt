@@ -7,6 +7,7 @@ use crate::cut::cut_at;
 use crate::number::read_number;
 use rules::order::Direction;
 
+/// What is left of a line.
 #[derive(Drop)]
 pub struct Fields<'a> {
     // nothing after the last field
@@ -14,12 +15,14 @@ pub struct Fields<'a> {
 }
 
 impl<'a> Fields<'a> {
+    /// All fields of a line: between any two of them stands one space.
     pub fn new(line: &'a [u8]) -> Fields<'a>
         ensures { left result ≡ fields line.now }
     {
         Fields { rest: Some(line) }
     }
 
+    /// The next field, which is then taken; nothing once the last one is.
     pub fn next_field(&mut self) -> Option<&'a [u8]>
         ensures { Taken (left self.old) result (left self.new) }
     {
@@ -36,6 +39,7 @@ impl<'a> Fields<'a> {
         }
     }
 
+    /// Whether the last field is taken.
     pub fn is_empty(&self) -> bool
         ensures { result ≡ is_empty (left self.now) }
     {
@@ -43,6 +47,7 @@ impl<'a> Fields<'a> {
     }
 }
 
+/// The letter that a field of one byte is.
 pub fn read_letter(field: &[u8]) -> Option<char>
     ensures { result ≡ letter_of field.now }
 {
@@ -52,6 +57,7 @@ pub fn read_letter(field: &[u8]) -> Option<char>
     }
 }
 
+/// The side that B or S names.
 pub fn read_side(field: &[u8]) -> Option<Direction>
     ensures { result ≡ side_of field.now }
 {
@@ -62,7 +68,7 @@ pub fn read_side(field: &[u8]) -> Option<Direction>
     }
 }
 
-// The limit price; none for the M of a market order.
+/// The limit price; none for the M of a market order.
 pub fn read_limit(field: &[u8]) -> Option<Option<u32>>
     ensures { result ≡ limit_of field.now }
 {

@@ -7,10 +7,10 @@ use crate::number::read_number;
 use crate::reader::read_call;
 use book::call::Call;
 
-// The most bytes of a file.
+/// The most bytes of a file.
 pub const LONGEST: usize = 65_536;
 
-// What is left of a file, and the number of the first line of it.
+/// What is left of a file, and the number of the first line of it.
 #[derive(Clone, Copy)]
 pub struct Lines<'a> {
     rest: &'a [u8],
@@ -18,7 +18,7 @@ pub struct Lines<'a> {
     ghost few: { line + length rest.now ≤ 65537 },
 }
 
-// The lines of the first section.
+/// The lines of the first section.
 #[derive(Clone, Copy, Debug, PartialEq, Eq)]
 pub struct TermsSection {
     pub reference: u32,
@@ -28,6 +28,7 @@ pub struct TermsSection {
 impl<'a> Lines<'a> {
     ghost use Rattle.session_file.specs.Lines.{ahead_in, ahead_of, cut_off, found, first_ahead, first_line, number_line, call_line, terms_section, ending};
 
+    /// All lines of a file. Errors: it has more than `LONGEST` bytes, which is a fault in line 0.
     pub fn new(file: &'a [u8]) -> Result<Lines<'a>, Fault>
         ensures { ahead_of result ≡ first_ahead file.now }
     {
@@ -51,7 +52,7 @@ impl<'a> Lines<'a> {
         Ok((line, behind))
     }
 
-    // The number that the first line is, and the lines behind it.
+    /// The number that the first line is, and the lines behind it. Errors: the line is none.
     pub fn next_number(self) -> Result<(u32, Lines<'a>), Fault>
         ensures { found result ≡ number_line (ahead_in self.entry) }
     {
@@ -60,7 +61,7 @@ impl<'a> Lines<'a> {
         Ok((n, behind))
     }
 
-    // The call that the first line reads as, and the lines behind it.
+    /// The call that the first line reads as, and the lines behind it. Errors: it reads as none.
     pub fn next_call(self) -> Result<(Call, Lines<'a>), Fault>
         ensures { found result ≡ call_line (ahead_in self.entry) }
     {
@@ -69,7 +70,7 @@ impl<'a> Lines<'a> {
         Ok((call, behind))
     }
 
-    // The section of the terms, and the lines behind it.
+    /// The section of the terms, and the lines behind it. Errors: the first of its lines that breaks the form.
     pub fn next_terms(self) -> Result<(TermsSection, Lines<'a>), Fault>
         ensures { found result ≡ terms_section (ahead_in self.entry) }
     {
@@ -82,7 +83,7 @@ impl<'a> Lines<'a> {
         Ok((TermsSection { reference, block }, behind))
     }
 
-    // Nothing may be left behind the last call.
+    /// Errors: something is left behind the last call.
     pub fn end(self) -> Result<(), Fault>
         ensures { result ≡ ending (ahead_in self.entry) }
     {

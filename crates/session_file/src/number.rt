@@ -15,7 +15,7 @@ fn digits(field: &[u8]) -> Option<u32>
     Some(value)
 }
 
-// A number of one to nine digits with no needless leading zero.
+/// A number of one to nine digits with no needless leading zero.
 pub fn read_number(field: &[u8]) -> Option<u32>
     ensures grammar { (n : ℕ) → (result ≡ Some n) ↔ Number n field.now }
     ensures value { result ≡ number_of field.now }

@@ -10,13 +10,14 @@ use book::slip::Slip;
 use rules::refusal::Refusal;
 use std::fmt;
 
+/// A line of the text that a file is answered with.
 #[derive(Clone, Copy)]
 pub enum OutputLine {
     Accepted(Answer<Told>),
     Slipped(Slip),
     Refused(Refusal),
     Broken(Fault),
-    // the next reference price
+    /// the next reference price
     NextReference(u32),
 }
 

@@ -14,6 +14,7 @@ use market::journal::Entry;
 use rules::refusal::Refusal;
 use std::alloc::AllocError;
 
+/// One line, with its end.
 pub fn put_line(out: &mut String, line: OutputLine) -> Result<(), AllocError>
     ensures { OnOk result
         (string_bytes out.new ≡ string_bytes out.old ++ line_text (line_of line)) }
@@ -31,7 +32,7 @@ fn put_slips(out: &mut String, slips: &[Slip]) -> Result<(), AllocError>
     Ok(())
 }
 
-// What a call came to: its answer and its slips, or its refusal.
+/// What a call came to: its answer and its slips, or its refusal.
 pub fn put_call(
     out: &mut String,
     answer: &Result<Answer<Told>, Refusal>,
@@ -50,7 +51,7 @@ pub fn put_call(
     }
 }
 
-// Each call that was worked, and its slips.
+/// Each call that was worked, and its slips.
 pub fn put_journal(out: &mut String, journal: &[Entry]) -> Result<(), AllocError>
     ensures { OnOk result
         (string_bytes out.new ≡ string_bytes out.old ++ flat_map entry_text journal.now) }

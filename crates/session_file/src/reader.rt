@@ -67,7 +67,7 @@ fn call(mut fields: Fields) -> Option<Call>
     }
 }
 
-// The call that a line reads as, if any.
+/// The call that a line reads as, if any.
 pub fn read_call(line: &[u8]) -> Option<Call>
     ensures grammar { (call : Call) → (result ≡ Some call) ↔ Line call line.now }
     ensures value { result ≡ call_of line.now }

@@ -6,6 +6,7 @@ ghost use Rattle.tables.specs.contracts.both.Both.{the_row};
 
 use rules::order::Direction;
 
+/// One thing for each side.
 #[derive(Drop)]
 pub struct Both<T> {
     pub buys: T,
@@ -13,6 +14,7 @@ pub struct Both<T> {
 }
 
 impl<T> Both<T> {
+    /// The one of this side.
     pub fn of(&self, direction: Direction) -> &T
         ensures { result.now ≡ of direction self.now }
     {
@@ -22,7 +24,7 @@ impl<T> Both<T> {
         }
     }
 
-    // Lends one of the two: what is written to it then stands there.
+    /// Lends one of the two: what is written to it then stands there.
     pub fn of_mut(&mut self, direction: Direction) -> &mut T
         ensures* lends { sem 𝓛
             (Lends (the_row T.row) T.row self.entry result

@@ -7,7 +7,7 @@ use crate::table::{No, Table};
 use rules::order::{Direction, Order};
 use std::alloc::{AllocError, Global};
 
-// Values and no closures: a list of them is printed beside its answers, and the law below is over any such list.
+/// Values and no closures: a list of them is printed beside its answers, and the law below is over any such list.
 #[derive(Clone, Copy)]
 pub enum Call {
     Clear,
@@ -20,6 +20,7 @@ pub enum Call {
     Remove { number: u32 },
 }
 
+/// What a call answers: yes or no, a count, or an order.
 #[derive(Clone, Copy)]
 pub enum Reply {
     Answered(Result<(), No>),
@@ -27,7 +28,7 @@ pub enum Reply {
     Found(Option<Order>),
 }
 
-// Works one call.
+/// Works one call.
 pub fn work<T: Table>(table: &mut T, call: Call) -> Reply
     ensures answer { result ≡ reply (T.Table.contents table.old) call }
     ensures after { T.Table.contents table.new ≡ after_call (T.Table.contents table.old) call }
@@ -47,7 +48,7 @@ pub fn work<T: Table>(table: &mut T, call: Call) -> Reply
     }
 }
 
-// Clears a table, and works the calls on it in turn. Where memory is wanting, the table is left as it was.
+/// Clears a table, and works the calls on it in turn. Where memory is wanting, the table is left as it was.
 pub fn replay<T: Table>(
     heap: Global,
     table: &mut T,
@@ -69,7 +70,7 @@ pub fn replay<T: Table>(
     Ok(given)
 }
 
-// Replays the calls on two tables. Tables of equal capacity give equal answers, so that either can stand for the other.
+/// Replays the calls on two tables. Tables of equal capacity give equal answers, so that either can stand for the other.
 pub fn replay_both<A: Table, B: Table>(
     heap: Global,
     one: &mut A,

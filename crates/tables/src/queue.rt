@@ -11,6 +11,7 @@ use rules::order::{Direction, Order};
 // The most orders that a side of a queue holds.
 const MOST: usize = 512;
 
+/// A table over a lent run; docs/RULES.md says how many places it gives each side.
 #[derive(Drop)]
 pub struct Queue<'a> {
     // the caller's, so no vector
@@ -21,7 +22,7 @@ pub struct Queue<'a> {
 }
 
 impl<'a> Queue<'a> {
-    // An empty queue over a run, which it holds as long as it lasts.
+    /// An empty queue over a run, which it holds as long as it lasts.
     pub fn new(run: &'a mut [Order]) -> Self
         ensures { stored_in result.run.now result.counts ≡ empty_in (length run.old) }
     {

@@ -16,7 +16,7 @@ fn ahead(direction: Direction, row: &[Order], order: &Order) -> usize
         .count()
 }
 
-// The order at a rank of a side: the one with just so many ahead of it.
+/// The order at a rank of a side: the one with just so many ahead of it.
 pub fn at_rank(direction: Direction, row: &[Order], rank: usize) -> Option<Order>
     requires { Distinct row.now }
     ensures { result ≡ slice_get (arranged (order_before direction) row.now) rank }

@@ -18,7 +18,7 @@ fn ranks_on<S: Quotes>(a: &Order, b: &Order) -> bool
     Queued::<S>::new(*a).before(&Queued::new(*b))
 }
 
-// Whether the first of two orders ranks before the second on a side.
+/// Whether the first of two orders ranks before the second on a side.
 pub fn ranks_before(direction: Direction, a: &Order, b: &Order) -> bool
     ensures { result ≡ order_before direction a.now b.now }
 {
@@ -38,14 +38,14 @@ fn rank_of(direction: Direction, row: &[Order], order: &Order) -> usize
     row.partition_point(|held| !ranks_before(direction, order, held))
 }
 
-// The index of the order with a number.
+/// The index of the order with a number.
 pub fn index_of(row: &[Order], number: u32) -> Option<usize>
     ensures { Located number row.now result }
 {
     row.iter().position(|order| order.number == number)
 }
 
-// Puts an order at its rank among the first `count` of a row, which are in rank order; each order behind it moves once.
+/// Puts an order at its rank among the first `count` of a row, which are in rank order; each order behind it moves once.
 pub fn insert_into(direction: Direction, row: &mut [Order], count: usize, order: Order)
     requires room { count < length row.old }
     requires ranked { in_rank (order_before direction) (take count row.old) ≡ true }
@@ -57,7 +57,7 @@ pub fn insert_into(direction: Direction, row: &mut [Order], count: usize, order:
     row[at] = order;
 }
 
-// Takes the order at `at` out of the first `count` of a row; each order behind it moves once.
+/// Takes the order at `at` out of the first `count` of a row; each order behind it moves once.
 pub fn remove_at(row: &mut [Order], count: usize, at: usize)
     requires { (at < count) × (count ≤ length row.old) }
     ensures { take (count - 1) row.new ≡ remove (take count row.old) at }

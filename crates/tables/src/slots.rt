@@ -12,6 +12,7 @@ use std::alloc::{AllocError, Global};
 
 const PLACES: usize = 32;
 
+/// A table of 32 places for each side, which needs no run.
 #[derive(Drop)]
 pub struct Slots {
     inner: Unsorted,
@@ -19,7 +20,7 @@ pub struct Slots {
 }
 
 impl Slots {
-    // Empty slots. Their memory is reserved here, and no later call wants any.
+    /// Empty slots. Their memory is reserved here, and no later call wants any.
     pub fn new(heap: Global) -> Result<Slots, AllocError>
         ensures { IfOk result (λ s. stored_in s.inner ≡ empty_slots) }
     {

@@ -9,36 +9,38 @@ use crate::rows::index_of;
 use crate::table::{No, Table};
 use rules::order::{Direction, Order};
 
+/// What a table is made of; every store is a table.
 pub trait Store {
     // what it has room for, and its orders as they stand, in rank order or in none
     ghost stored: { Self → Contents };
 
+    /// Takes out every order.
     fn clear(&mut self)
         ensures { stored self.new ≡ cleared (stored self.old) };
 
-    // How many orders a side has room for.
+    /// How many orders a side has room for.
     fn places(&self) -> usize
         ensures { result ≡ (stored self.now).capacity.places };
 
-    // The orders of a side as they stand.
+    /// The orders of a side as they stand.
     fn row(&self, direction: Direction) -> &[Order]
         ensures { result.now ≡ listed direction (stored self.now) };
 
-    // The order at a rank of a side.
+    /// The order at a rank of a side.
     fn at(&self, direction: Direction, rank: usize) -> Option<Order>
         ensures { result ≡ slice_get (listed direction (ordered (stored self.now))) rank };
 
-    // Puts in an order that is taken, anywhere that keeps its rank.
+    /// Puts in an order that is taken, anywhere that keeps its rank.
     fn put(&mut self, order: Order)
         requires { takes_order (stored self.old) order ≡ true }
         ensures { ordered (stored self.new) ≡ put_in order (ordered (stored self.old)) };
 
-    // Takes out the order at a place.
+    /// Takes out the order at a place.
     fn take_out(&mut self, place: Place)
         requires { place.index < length (listed place.direction (stored self.old)) }
         ensures { stored self.new ≡ without_at place (stored self.old) };
 
-    // Gives the order at a place another volume.
+    /// Gives the order at a place another volume.
     fn set_volume_at(&mut self, place: Place, volume: u32)
         requires { place.index < length (listed place.direction (stored self.old)) }
         ensures { stored self.new ≡ with_volume_at place volume (stored self.old) };

@@ -11,14 +11,14 @@ use crate::both::Both;
 use crate::place::Place;
 use rules::order::Order;
 
-// A struct of its own, since a clause on what is lent has to name the type that it is lent from.
+/// A struct of its own, since a clause on what is lent has to name the type that it is lent from.
 #[derive(Drop)]
 pub struct Unsorted {
     pub orders: Both<Vec<Order>>,
 }
 
 impl Unsorted {
-    // Lends the order at a place, if there is one: what is written to it then stands there.
+    /// Lends the order at a place, if there is one: what is written to it then stands there.
     pub fn lend(&mut self, place: Place) -> Option<&mut Order>
         ensures* lends { sem 𝓛
             (LendsIf the_row order_row self.entry result

@@ -22,7 +22,7 @@ fn count(direction: Direction) -> Call {
     Call::Count { direction }
 }
 
-// Price before arrival before number, on both sides.
+/// Price before arrival before number, on both sides.
 pub fn ranks() -> [Call; 21] {
     [
         add(1, Direction::Buy, 1000, 10),
@@ -49,7 +49,7 @@ pub fn ranks() -> [Call; 21] {
     ]
 }
 
-// A number is held once, on either side, and is free again once it is removed.
+/// A number is held once, on either side, and is free again once it is removed.
 pub fn numbers() -> [Call; 12] {
     [
         add(1, Direction::Buy, 1000, 10),
@@ -67,7 +67,7 @@ pub fn numbers() -> [Call; 12] {
     ]
 }
 
-// A volume is set where it is not 0; an order may come with volume 0 and number 0.
+/// A volume is set where it is not 0; an order may come with volume 0 and number 0.
 pub fn volumes() -> [Call; 18] {
     [
         add(1, Direction::Buy, 1000, 10),
@@ -125,7 +125,7 @@ fn of_a_full_side() -> [Call; 13] {
     ]
 }
 
-// 32 buys, which fill their side, and then the questions.
+/// 32 buys, which fill their side, and then the questions.
 pub fn full(heap: Global) -> Result<Vec<Call>, AllocError> {
     (1..33u32)
         .map(|n| add(n, Direction::Buy, 1000 + n, 10))
@@ -133,7 +133,7 @@ pub fn full(heap: Global) -> Result<Vec<Call>, AllocError> {
         .collect(heap)
 }
 
-// The places of a queue, and three sells for one side of it.
+/// The places of a queue, and three sells for one side of it.
 pub fn room() -> [Call; 4] {
     [
         Call::Places,

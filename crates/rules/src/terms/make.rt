@@ -14,6 +14,9 @@ fn band_around(r: u32) -> (u32, u32)
 }
 
 impl Terms {
+    /// Terms of a reference price in bani and a block in shares.
+    ///
+    /// Errors: refusal 1, where the reference price is not 1 to 1,000,000; else 2, where the block is not 1 to 10,000.
     pub fn new(reference: u32, block: u32) -> Result<Terms, Refusal>
         ensures { terms_answer result ≡ terms_of reference block }
     {
@@ -32,19 +35,21 @@ impl Terms {
         })
     }
 
+    /// In bani.
     pub fn reference(&self) -> u32
         ensures { result ≡ self.now.reference }
     {
         self.reference
     }
 
+    /// In shares.
     pub fn block(&self) -> u32
         ensures { result ≡ self.now.block }
     {
         self.block
     }
 
-    // The lowest and the highest price of the band, together.
+    /// The lowest and the highest price of the band, together.
     pub fn band(&self) -> (u32, u32)
         ensures value { result ≡ (self.now.lo, self.now.hi) }
         ensures rule { result ≡ band self.now.reference }
