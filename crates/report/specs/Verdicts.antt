@@ -13,6 +13,6 @@ one_more n = (n + 1) % 2 ^ 64
 
 -- the tally with one verdict more
 abbrev pub tally_after : Verdict → Tally → Tally
-tally_after Agrees t = record { agree = one_more t.agree; known = t.known; differ = t.differ }
-tally_after KnownDifference t = record { agree = t.agree; known = one_more t.known; differ = t.differ }
-tally_after Differs t = record { agree = t.agree; known = t.known; differ = one_more t.differ }
+tally_after Agrees t = record t { agree = one_more t.agree }
+tally_after KnownDifference t = record t { known = one_more t.known }
+tally_after Differs t = record t { differ = one_more t.differ }
