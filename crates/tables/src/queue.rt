@@ -1,11 +1,13 @@
 // A table in a run of places that is lent to it: buys in its first half, sells in its second, each in rank order.
 ghost use Rattle.std.specs.Prelude.{◌≡◌, length};
+ghost use Rattle.tables.specs.Meaning.{ordered};
 ghost use Rattle.tables.specs.Run.{Kept, half as half_of, start as start_of, stored as stored_in, empty_in};
 
 use crate::both::Both;
 use crate::place::Place;
 use crate::rows::{insert_into, remove_at};
-use crate::store::Store;
+use crate::store::{self, Store};
+use crate::table::{No, Table};
 use rules::order::{Direction, Order};
 
 // The most orders that a side of a queue holds.
@@ -93,5 +95,44 @@ impl<'a> Store for Queue<'a> {
     fn set_volume_at(&mut self, place: Place, volume: u32) {
         let start = self.start(place.direction);
         self.run[start + place.index].volume = volume;
+    }
+}
+
+// What a table's calls do is written once for any store; clear, the order at a rank and the places are the store's own.
+impl<'a> Table for Queue<'a> {
+    ghost contents = { λ q. ordered (⟦<Queue<'a> as Store>⟧.stored q) };
+
+    ghost sound = { λ q. q.kept.sound };
+
+    fn clear(&mut self) {
+        Store::clear(self)
+    }
+
+    fn at(&self, direction: Direction, rank: usize) -> Option<Order> {
+        Store::at(self, direction, rank)
+    }
+
+    fn count(&self, direction: Direction) -> usize {
+        store::count(self, direction)
+    }
+
+    fn places(&self) -> usize {
+        Store::places(self)
+    }
+
+    fn find(&self, number: u32) -> Option<Order> {
+        store::find(self, number)
+    }
+
+    fn add(&mut self, order: Order) -> Result<(), No> {
+        store::add(self, order)
+    }
+
+    fn set_volume(&mut self, number: u32, volume: u32) -> Result<(), No> {
+        store::set_volume(self, number, volume)
+    }
+
+    fn remove(&mut self, number: u32) -> Result<(), No> {
+        store::remove(self, number)
     }
 }

@@ -1,11 +1,13 @@
 // A table of 32 places for each side, in no order, which it searches.
 ghost use Rattle.std.specs.Prelude.{◌≡◌, IfOk};
+ghost use Rattle.tables.specs.Meaning.{ordered};
 ghost use Rattle.tables.specs.Slots.{Kept, stored as stored_in, empty_slots};
 
 use crate::both::Both;
 use crate::place::Place;
 use crate::ranks::at_rank;
-use crate::store::Store;
+use crate::store::{self, Store};
+use crate::table::{No, Table};
 use crate::unsorted::Unsorted;
 use rules::order::{Direction, Order};
 use std::alloc::{AllocError, Global};
@@ -76,5 +78,44 @@ impl Store for Slots {
         if let Some(order) = self.inner.lend(place) {
             order.volume = volume;
         }
+    }
+}
+
+// What a table's calls do is written once for any store; clear, the order at a rank and the places are the store's own.
+impl Table for Slots {
+    ghost contents = { λ s. ordered (⟦<Slots as Store>⟧.stored s) };
+
+    ghost sound = { λ s. s.kept.sound };
+
+    fn clear(&mut self) {
+        Store::clear(self)
+    }
+
+    fn at(&self, direction: Direction, rank: usize) -> Option<Order> {
+        Store::at(self, direction, rank)
+    }
+
+    fn count(&self, direction: Direction) -> usize {
+        store::count(self, direction)
+    }
+
+    fn places(&self) -> usize {
+        Store::places(self)
+    }
+
+    fn find(&self, number: u32) -> Option<Order> {
+        store::find(self, number)
+    }
+
+    fn add(&mut self, order: Order) -> Result<(), No> {
+        store::add(self, order)
+    }
+
+    fn set_volume(&mut self, number: u32, volume: u32) -> Result<(), No> {
+        store::set_volume(self, number, volume)
+    }
+
+    fn remove(&mut self, number: u32) -> Result<(), No> {
+        store::remove(self, number)
     }
 }

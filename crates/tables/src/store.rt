@@ -1,15 +1,16 @@
-// What stands behind a table: rows of orders, in rank order or in none. What every table does alike is written here.
+// What stands behind a table here: rows of orders, in rank order or in none. What such tables do alike is written once,
+// over any store; each hands its calls on to it.
 ghost use Rattle.std.specs.Prelude.{◌≡◌, ◌<◌, true, length};
 ghost use Rattle.std.specs.List.{slice_get};
-ghost use Rattle.tables.specs.Meaning.{Contents, Sound, listed, cleared, takes as takes_order, ordered, put_in};
+ghost use Rattle.tables.specs.Meaning.{Contents, Sound, listed, cleared, takes as takes_order, lookup, sets_volume, said, held, added, volume_set, removed, ordered, put_in};
 ghost use Rattle.tables.specs.Stored.{Placed, PlacedOn, without_at, with_volume_at};
 
 use crate::place::Place;
 use crate::rows::index_of;
-use crate::table::{No, Table};
+use crate::table::No;
 use rules::order::{Direction, Order};
 
-/// What a table is made of; every store is a table.
+/// What a table is made of. What it means is this, put in rank order.
 pub trait Store {
     // what it has room for, and its orders as they stand, in rank order or in none
     ghost stored: { Self → Contents };
@@ -71,53 +72,57 @@ fn takes<S: Store>(store: &S, order: &Order) -> bool
     store.row(order.direction).len() < store.places() && place_of(store, order.number).is_none()
 }
 
-// Every store is a table. Clear, at and places are the store's own, handed on.
-impl<S: Store> Table for S {
-    ghost contents = { λ s. ordered (S.Store.stored s) };
+/// How many orders a side holds.
+pub fn count<S: Store>(store: &S, direction: Direction) -> usize
+    ensures { result ≡ length (listed direction (ordered (S.Store.stored store.now))) }
+{
+    store.row(direction).len()
+}
 
-    ghost sound = { S.Store.sound };
+/// The order with a number, on either side.
+pub fn find<S: Store>(store: &S, number: u32) -> Option<Order>
+    ensures { result ≡ lookup number (ordered (S.Store.stored store.now)).book }
+{
+    let place = place_of(store, number)?;
+    Some(store.row(place.direction)[place.index])
+}
 
-    fn clear(&mut self) {
-        Store::clear(self)
+/// Puts in an order. Errors: its side is full, or its number is held on either side. The store is then unchanged.
+pub fn add<S: Store>(store: &mut S, order: Order) -> Result<(), No>
+    ensures answer { result ≡ said (takes_order (ordered (S.Store.stored store.old)) order) }
+    ensures after { ordered (S.Store.stored store.new)
+        ≡ added order (ordered (S.Store.stored store.old)) }
+{
+    if !takes(store, &order) {
+        return Err(No);
     }
+    store.put(order);
+    Ok(())
+}
 
-    fn at(&self, direction: Direction, rank: usize) -> Option<Order> {
-        Store::at(self, direction, rank)
+/// Gives a held order this volume, in shares. Errors: the number is not held, or the volume is 0. The store is then
+/// unchanged.
+pub fn set_volume<S: Store>(store: &mut S, number: u32, volume: u32) -> Result<(), No>
+    ensures answer { result
+        ≡ said (sets_volume number volume (ordered (S.Store.stored store.old))) }
+    ensures after { ordered (S.Store.stored store.new)
+        ≡ volume_set number volume (ordered (S.Store.stored store.old)) }
+{
+    if volume == 0 {
+        return Err(No);
     }
+    let place = place_of(store, number).ok_or(No)?;
+    store.set_volume_at(place, volume);
+    Ok(())
+}
 
-    fn count(&self, direction: Direction) -> usize {
-        self.row(direction).len()
-    }
-
-    fn places(&self) -> usize {
-        Store::places(self)
-    }
-
-    fn find(&self, number: u32) -> Option<Order> {
-        let place = place_of(self, number)?;
-        Some(self.row(place.direction)[place.index])
-    }
-
-    fn add(&mut self, order: Order) -> Result<(), No> {
-        if !takes(self, &order) {
-            return Err(No);
-        }
-        self.put(order);
-        Ok(())
-    }
-
-    fn set_volume(&mut self, number: u32, volume: u32) -> Result<(), No> {
-        if volume == 0 {
-            return Err(No);
-        }
-        let place = place_of(self, number).ok_or(No)?;
-        self.set_volume_at(place, volume);
-        Ok(())
-    }
-
-    fn remove(&mut self, number: u32) -> Result<(), No> {
-        let place = place_of(self, number).ok_or(No)?;
-        self.take_out(place);
-        Ok(())
-    }
+/// Takes out a held order. Errors: the number is not held. The store is then unchanged.
+pub fn remove<S: Store>(store: &mut S, number: u32) -> Result<(), No>
+    ensures answer { result ≡ said (held number (ordered (S.Store.stored store.old)).book) }
+    ensures after { ordered (S.Store.stored store.new)
+        ≡ removed number (ordered (S.Store.stored store.old)) }
+{
+    let place = place_of(store, number).ok_or(No)?;
+    store.take_out(place);
+    Ok(())
 }

@@ -53,7 +53,7 @@ pub trait Table {
     ghost sound: { (t : Self) → Sound (contents t) };
 }
 
-/// The same at hand where a proof about any table wants it.
+/// What every table keeps, at hand where a proof about any table wants it.
 pub fn keeps<T: Table>(table: &T)
     ensures { Sound (T.Table.contents table.now) }
 {}
