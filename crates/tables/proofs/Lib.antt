@@ -6,6 +6,7 @@ pub mod InOrder
 pub mod Ranking
 pub mod Replays
 pub mod Shifts
+pub mod Stepwise
 pub mod Stands
 pub mod Sides
 pub mod Slotted

@@ -1,5 +1,5 @@
 -- Numbers in a list: which are held how often, before and after a change.
-use Rattle.std.proofs.Common.{◌≡◌, length, filter, ℕ, zero, suc, ◌+◌, ◌<◌, ◌≤◌, Bool, true, cond, List, [], ◌∷◌, get_or, set, is_some, None, refl, ap, ⊎_elim, arith}
+use Rattle.std.proofs.Common.{◌≡◌, ℕ, zero, suc, ◌+◌, ◌<◌, ◌≤◌, Bool, true, cond, List, [], ◌∷◌, get_or, set, is_some, None, refl, ap, ⊎_elim, arith}
 use Rattle.std.specs.List.{remove, slice_get, find}
 use Rattle.std.proofs.lemmas.Bool.{both_ways, cases_lt}
 use Rattle.std.proofs.lemmas.Bool.Decides.{nat_tests}
@@ -79,10 +79,6 @@ module _ (n : ℕ) where
 pub counted-insert : (test : Order → Bool) (lt : Order → Order → Bool) (o : Order) (xs : List Order) → count_where test (insert lt o xs) ≡ cond (test o) 1 0 + count_where test xs
 counted-insert test lt o [] = refl
 counted-insert test lt o (x ∷ xs) = let ih = counted-insert test lt o xs in grind arith
-
-pub length-kept : (test : Order → Bool) (xs : List Order) → length (filter test xs) ≡ count_where test xs
-length-kept test [] = refl
-length-kept test (x ∷ xs) = let ih = length-kept test xs in grind arith
 
 -- what a change does to the count of a number
 module _ (m : ℕ) where

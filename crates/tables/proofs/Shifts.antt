@@ -1,7 +1,7 @@
--- A row of which a part was turned by one: an element put in, or taken out.
+-- A row of which a part was turned by one, with an element put in.
 use Rattle.std.proofs.Common.{◌≡◌, ℕ, suc, ◌+◌, ◌-◌, ◌<◌, ◌≤◌, List, ◌∷◌, ◌++◌, length, take, drop, set, sym, refl, ap, ◌∙◌, arith}
 use borrow.Rule.Slice.PartMut.{put_mid}
-use Rattle.std.specs.List.{insert, remove}
+use Rattle.std.specs.List.{insert}
 use Rattle.std.proofs.lemmas.List.{append_assoc, length-append, length-take-le, length-drop, take-take, take_at, drop_at, drop-drop, drop-take, set_split}
 
 module _ {X : Type 0} (xs : List X) (i n : ℕ) (le : i ≤ n) (within : n ≤ length xs) where
@@ -19,20 +19,6 @@ module _ {X : Type 0} (xs : List X) (i n : ℕ) (le : i ≤ n) (within : n ≤ l
 
   length_part : (k : ℕ) → k ≤ length xs - i → length (take k (drop i xs)) ≡ k
   length_part k h = length-take-le k (drop i xs) (rw length-drop h)
-
-  -- those from i up to n turned left by one, and the last of them left out
-  pub taken_out : i < n → (r : List X) → r ≡ drop 1 (take (n - i) (drop i xs)) ++ take 1 (take (n - i) (drop i xs)) → take (n - 1) (put_mid i (n - i) xs r) ≡ remove (take n xs) i
-  taken_out lt r is =
-      let mid = take (n - i) (drop i xs) in
-      let post = drop (n - i) (drop i xs) in
-      let long = length_part (n - i) (omega arith) in
-      ap (λ ys. take (n - 1) (take i xs ++ (ys ++ post))) is
-      ∙ ap (λ ys. take (n - 1) (take i xs ++ ys)) (append_assoc (drop 1 mid) (take 1 mid) post)
-      ∙ ap (take (n - 1)) (sym (append_assoc (take i xs) (drop 1 mid) (take 1 mid ++ post)))
-      ∙ take_at (take i xs ++ drop 1 mid) (take 1 mid ++ post) (n - 1) (length-append (take i xs) (drop 1 mid) ∙ rw (length_front, length-drop 1 mid, long) (omega arith))
-      ∙ ap (λ ys. ys ++ drop 1 mid) (sym front)
-      ∙ ap (λ ys. take i (take n xs) ++ drop 1 ys) (sym behind)
-      ∙ ap (λ ys. take i (take n xs) ++ ys) (drop-drop 1 i (take n xs) ∙ ap (λ m. drop m (take n xs)) one_more)
 
   -- those from i on and the place behind the n turned right by one, and y written at i
   pub put_in : n < length xs → (y : X) (r : List X) → (let mid = take (n + 1 - i) (drop i xs) in r ≡ drop (length mid - 1) mid ++ take (length mid - 1) mid) → take (n + 1) (set (put_mid i (n + 1 - i) xs r) i y) ≡ insert (take n xs) i y

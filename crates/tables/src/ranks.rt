@@ -11,9 +11,13 @@ use rules::order::{Direction, Order};
 fn ahead(direction: Direction, row: &[Order], order: &Order) -> usize
     ensures { result ≡ ahead_of (order_before direction) order.now row.now }
 {
-    row.iter()
-        .filter(|other| ranks_before(direction, other, order))
-        .count()
+    let mut count = 0;
+    for other in row {
+        if ranks_before(direction, other, order) {
+            count += 1;
+        }
+    }
+    count
 }
 
 /// The order at a rank of a side: the one with just so many ahead of it.
@@ -21,7 +25,10 @@ pub fn at_rank(direction: Direction, row: &[Order], rank: usize) -> Option<Order
     requires { Distinct row.now }
     ensures { result ≡ slice_get (arranged (order_before direction) row.now) rank }
 {
-    row.iter()
-        .find(|order| ahead(direction, row, order) == rank)
-        .copied()
+    for order in row {
+        if ahead(direction, row, order) == rank {
+            return Some(*order);
+        }
+    }
+    None
 }
