@@ -122,6 +122,7 @@ pub static ENTRIES: [Entry; 5] = [
 
 /// A day of a symbol. A row that keeps its reference price although a best price stands at its limit had it there for a
 /// part of the time. Day 15 of symbol B prints 2070 as its lowest price, where 2070.6 rounds to 2071.
+#[derive(Clone, Copy)]
 pub struct Row {
     pub day: u32,
     pub course: Course,
