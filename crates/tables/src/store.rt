@@ -83,8 +83,10 @@ pub fn count<S: Store>(store: &S, direction: Direction) -> usize
 pub fn find<S: Store>(store: &S, number: u32) -> Option<Order>
     ensures { result ≡ lookup number (ordered (S.Store.stored store.now)).book }
 {
-    let place = place_of(store, number)?;
-    Some(store.row(place.direction)[place.index])
+    match place_of(store, number) {
+        Some(place) => Some(store.row(place.direction)[place.index]),
+        None => None,
+    }
 }
 
 /// Puts in an order. Errors: its side is full, or its number is held on either side. The store is then unchanged.
