@@ -72,7 +72,11 @@ impl<'a> Store for Queue<'a> {
     }
 
     fn at(&self, direction: Direction, rank: usize) -> Option<Order> {
-        self.row(direction).get(rank).copied()
+        // by `copied` the order would be copied out twice
+        match self.row(direction).get(rank) {
+            Some(order) => Some(*order),
+            None => None,
+        }
     }
 
     fn put(&mut self, order: Order) {

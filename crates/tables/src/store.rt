@@ -83,6 +83,7 @@ pub fn count<S: Store>(store: &S, direction: Direction) -> usize
 pub fn find<S: Store>(store: &S, number: u32) -> Option<Order>
     ensures { result ≡ lookup number (ordered (S.Store.stored store.now)).book }
 {
+    // by `?` the order that is found would be copied out twice
     match place_of(store, number) {
         Some(place) => Some(store.row(place.direction)[place.index]),
         None => None,
